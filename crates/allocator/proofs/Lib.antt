@@ -1,0 +1,6 @@
+pub mod Powers
+pub mod Pads
+pub mod Spans
+pub mod Laws
+mod Fixed
+mod Worked

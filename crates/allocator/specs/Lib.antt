@@ -1,0 +1,8 @@
+pub mod Layouts
+pub mod Faults
+pub mod Memory
+pub mod Answers
+pub mod Laws
+pub mod Buffers
+pub mod Stats
+pub mod Figures

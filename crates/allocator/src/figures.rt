@@ -1,0 +1,6 @@
+// Worked figures that users hold the allocator against, as theorems on its rules.
+ghost use Rattle.allocator.specs.Figures.{BufferFigures};
+
+pub fn buffer_figures()
+    ensures { λ _. ⌜ BufferFigures ⌝ }
+{}
