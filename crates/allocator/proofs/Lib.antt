@@ -2,5 +2,3 @@ pub mod Powers
 pub mod Pads
 pub mod Spans
 pub mod Laws
-mod Fixed
-mod Worked

@@ -3,6 +3,4 @@ pub mod Faults
 pub mod Memory
 pub mod Answers
 pub mod Laws
-pub mod Buffers
 pub mod Stats
-pub mod Figures

@@ -9,16 +9,11 @@ ghost use Rattle.allocator.specs.Laws.{Served, Undoes};
 ghost use Rattle.allocator.specs.Stats.{unused, counted, discounted, afterPush, afterPop, maxError, minCapacity};
 ghost use Rattle.allocator.specs.declared.fault.Fault.{Fault as AllocatorFault};
 
-mod core;
 mod fault;
-mod figures;
 mod layout;
 
-pub use core::SubAllocates;
-pub use core::SubAllocator;
 pub use fault::Cause;
 pub use fault::Fault;
-pub use figures::buffer_figures;
 pub use layout::Layout;
 
 // Scratch memory under the rules that all allocators keep. A call names no pointer but an address, and its bytes are loaded and stored one by one.

@@ -5,13 +5,13 @@ use Prim.Native.Nat.{ℕ, _≤_}
 use lib.ListN.{length}
 use Rattle.std.specs.declared.result.Result.{Result}
 use Rattle.std.specs.declared.result.Result.the-variants.{Ok, Err}
 use Rattle.allocator.specs.Layouts.{Sized, Aligning}
 use Rattle.allocator.specs.Memory.{Memory}
 use Rattle.allocator.specs.Answers.{Push, Pop}
-use Rattle.allocator.specs.Buffers.{fixed, Alone}
+use Rattle.sub_allocator.specs.Buffers.{fixed, Alone}
 use Rattle.allocator.specs.declared.fault.Fault.{Fault}
 use Rattle.allocator.specs.declared.fault.Fault.the-variants.{DoesNotFit}
 use Rattle.allocator.specs.declared.fault.Cause.the-variants.{FixedBuffer}
 
 -- eight bytes at alignment 8 at address 1 want 15 bytes: seven of them are padding
 abbrev pub AtOne : ℕ → Result ℕ Fault → Type 0

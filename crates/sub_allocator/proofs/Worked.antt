@@ -9,16 +9,16 @@ use lib.ListN.{length, take, length-take}
 use Rattle.std.proofs.shelf.Tests.{both-ways, le-leb, leb-true}
 use Rattle.std.specs.declared.result.Result.{Result}
 use Rattle.std.specs.declared.result.Result.the-variants.{Ok, Err}
 use Rattle.allocator.specs.Layouts.{PowerOfTwo, Aligning}
 use Rattle.allocator.specs.Memory.{Memory, fits, pushed, placed}
 use Rattle.allocator.specs.Answers.{Push, fitted, further, refused, Pop}
-use Rattle.allocator.specs.Buffers.{room, fixed, Alone}
-use Rattle.allocator.specs.Figures.{AtOne, LandsAtEight, BufferFigures}
+use Rattle.sub_allocator.specs.Buffers.{room, fixed, Alone}
+use Rattle.sub_allocator.specs.Figures.{AtOne, LandsAtEight, BufferFigures}
 use Rattle.allocator.specs.declared.fault.Fault.{Fault}
 use Rattle.allocator.specs.declared.fault.Fault.the-variants.{DoesNotFit}
 use Rattle.allocator.specs.declared.fault.Cause.the-variants.{FixedBuffer}
 use Rattle.allocator.proofs.Laws.{push-fits}
 use Rattle.allocator.proofs.Powers.{divides-from-aligning}
 
 -- an empty buffer has nothing taken
 abbrev bufferAt : ℕ → ℕ → List ℕ → Memory

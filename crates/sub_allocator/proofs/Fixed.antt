@@ -12,13 +12,13 @@ use Rattle.std.proofs.shelf.Tests.{cases-bool, le-leb, lt-leb, or-cases, or-par
 use Rattle.std.specs.declared.option.Option.{Option}
 use Rattle.std.specs.declared.option.Option.the-variants.{None, Some}
 use Rattle.std.specs.declared.result.Result.the-variants.{Ok, Err}
 use Rattle.allocator.specs.Layouts.{pad}
 use Rattle.allocator.specs.Memory.{Block, inside, takenIn, taken, fits}
 use Rattle.allocator.specs.Answers.{Push, fitted, refused, Pop, Load, Store}
-use Rattle.allocator.specs.Buffers.{based, room, fixed, placeIn, storedIn}
+use Rattle.sub_allocator.specs.Buffers.{based, room, fixed, placeIn, storedIn}
 use Rattle.allocator.specs.declared.fault.Fault.the-variants.{DoesNotFit, Address}
 use Rattle.allocator.specs.declared.fault.Cause.the-variants.{FixedBuffer}
 use Rattle.allocator.proofs.Spans.{spans-true, spans-from}
 
 take-set : (n : ℕ) (xs : List ℕ) (i x : ℕ) → take n (set xs i x) ≡ set (take n xs) i x
 take-set zero xs i x = refl

@@ -1,8 +1,8 @@
 use mathlib.Core.Path.{refl}
-use Rattle.allocator.specs.Buffers.{fixed-lawful}
-use Rattle.allocator.proofs.Fixed.{pop-found, pop-lost}
+use Rattle.sub_allocator.specs.Buffers.{fixed-lawful}
+use Rattle.sub_allocator.proofs.Fixed.{pop-found, pop-lost}
 use Rattle.allocator.proofs.Laws.{pop-undoes}
-use Rattle.allocator.proofs.core.SubAllocates.pop_alloc.Needs as need
+use Rattle.sub_allocator.proofs.SubAllocates.pop_alloc.Needs as need
 
 pub returns-in-rest : need.returns-in-rest
 returns-in-rest c =

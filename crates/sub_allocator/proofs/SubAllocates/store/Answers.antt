@@ -1,6 +1,6 @@
 use mathlib.Core.Path.{refl}
-use Rattle.allocator.proofs.Fixed.{store-found, store-lost, stored-is, unstored-is}
-use Rattle.allocator.proofs.core.SubAllocates.store.Needs as need
+use Rattle.sub_allocator.proofs.Fixed.{store-found, store-lost, stored-is, unstored-is}
+use Rattle.sub_allocator.proofs.SubAllocates.store.Needs as need
 
 pub returns-in-rest : need.returns-in-rest
 returns-in-rest c =

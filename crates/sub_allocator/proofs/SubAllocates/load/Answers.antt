@@ -1,5 +1,5 @@
-use Rattle.allocator.proofs.Fixed.{load-found, load-lost}
-use Rattle.allocator.proofs.core.SubAllocates.load.Needs as need
+use Rattle.sub_allocator.proofs.Fixed.{load-found, load-lost}
+use Rattle.sub_allocator.proofs.SubAllocates.load.Needs as need
 
 pub returns-in-rest : need.returns-in-rest
 returns-in-rest c u =

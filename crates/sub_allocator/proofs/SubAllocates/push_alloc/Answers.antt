@@ -1,10 +1,10 @@
 use mathlib.Core.Path.{_≡_, refl, ap}
 use Prim.Native.Nat.{_+_, _-_, _≤_, _<_}
 use native.Mathlib.Omega.{arith}
-use Rattle.allocator.specs.Buffers.{room, fixed-lawful}
-use Rattle.allocator.proofs.Fixed.{unfit, fit, served}
+use Rattle.sub_allocator.specs.Buffers.{room, fixed-lawful}
+use Rattle.sub_allocator.proofs.Fixed.{unfit, fit, served}
 use Rattle.allocator.proofs.Laws.{push-served}
-use Rattle.allocator.proofs.core.SubAllocates.push_alloc.Needs as need
+use Rattle.sub_allocator.proofs.SubAllocates.push_alloc.Needs as need
 
 pub returns-then-wanted-room : need.returns-then-wanted-room
 returns-then-wanted-room c =

@@ -4,12 +4,16 @@ ghost use mathlib.Core.List.{[]};
 ghost use Prim.Native.Nat.{ℕ, _<_, min};
 ghost use denote.Ref.{now, name};
 ghost use Rattle.std.specs.Options.{Cases as BySome};
 ghost use Rattle.allocator.specs.Memory.{Memory};
-ghost use Rattle.allocator.specs.Buffers.{based, room, fixed, fixed-lawful, placeIn, storedIn, Alone};
-use crate::Allocator;
-use crate::fault::Cause;
-use crate::fault::Fault;
-use crate::layout::Layout;
+ghost use Rattle.sub_allocator.specs.Buffers.{based, room, fixed, fixed-lawful, placeIn, storedIn, Alone};
+use allocator::Allocator;
+use allocator::Cause;
+use allocator::Fault;
+use allocator::Layout;
+
+mod figures;
+
+pub use figures::buffer_figures;
 
 // The caller's buffer as one block. A struct that holds a `&mut` has no invariant here, so each call brings the three fields into their limits.
 #[derive(Drop)]
