@@ -13,7 +13,13 @@ mod fault;
 mod layout;
 
 pub use fault::Cause;
+pub use fault::CauseDebug;
+pub use fault::CauseEq;
+pub use fault::CausePartialEq;
 pub use fault::Fault;
+pub use fault::FaultDebug;
+pub use fault::FaultEq;
+pub use fault::FaultPartialEq;
 pub use layout::Layout;
 
 // Scratch memory under the rules that all allocators keep. A call names no pointer but an address, and its bytes are loaded and stored one by one.

@@ -1,0 +1,4 @@
+pub mod Letters
+pub mod Written
+pub mod Read
+pub mod Digits
