@@ -8,3 +8,4 @@ mod Stack
 mod Invariant
 mod Traces
 pub mod Laws
+mod Statistics

@@ -6,3 +6,4 @@ pub mod Records
 pub mod Sessions
 pub mod Laws
 pub mod Runs
+pub mod Statistics

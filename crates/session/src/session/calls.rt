@@ -8,13 +8,17 @@ ghost use Rattle.session.specs.Steps.{fresh};
 ghost use Rattle.session.specs.Records.{live, NotAmong, Found, Held};
 ghost use Rattle.session.specs.Sessions.{state, pushed, popped, ended, loaded, Performs};
 ghost use Rattle.session.specs.Runs.{SessionLaw};
+ghost use Rattle.session.specs.Statistics.{tracked, StatisticsLaw};
+ghost use Rattle.allocator.specs.Stats.{unused};
 use super::Session;
 use crate::fault::Fault;
 use crate::fault::FaultFromAllocator;
 use crate::grant::Grant;
 use crate::live::LiveSpan;
+use allocator::AllocationTracker;
 use allocator::Allocator;
 use allocator::Layout;
+use allocator::TrackerAllocates;
 
 fn blank() -> LiveSpan {
     match Layout::from_size_align(1, 1) {
@@ -154,5 +158,18 @@ impl<A: Allocator> Session<A> {
             return None;
         };
         Some((span.at, span.layout.size()))
+    }
+}
+
+impl<T: Allocator> Session<AllocationTracker<T>> {
+    // Opens a session over a new tracker, whose statistics are then those of the session's ledger.
+    pub fn track(inner: T) -> Session<AllocationTracker<T>>
+        ensures inner { λ r. ⌜ r .inner .inner ≡ inner ⌝ }
+        ensures stats { λ r. ⌜ r .inner .stats ≡ unused ⌝ }
+        ensures fresh { λ r. ⌜ state (tracked T·Allocator) r ≡ fresh (T·Allocator .blocks inner) ⌝ }
+        ensures law { λ r. ⌜ SessionLaw (tracked T·Allocator) r ⌝ }
+        ensures statistics { λ r. ⌜ StatisticsLaw T·Allocator r ⌝ }
+    {
+        Session::open(AllocationTracker::new(inner))
     }
 }
