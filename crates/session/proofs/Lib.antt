@@ -1,0 +1,11 @@
+mod Blocks
+mod Records
+mod Steps
+mod Owns
+mod Rounding
+mod Grants
+mod Stack
+mod Invariant
+mod Traces
+pub mod Laws
+mod Statistics
