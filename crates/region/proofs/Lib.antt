@@ -1,0 +1,4 @@
+mod Searches
+mod Removals
+mod Windows
+mod Calls

@@ -1,0 +1,7 @@
+// What became of the last request to a source.
+#[derive(Clone, Copy, Debug, PartialEq, Eq)]
+pub enum Outcome {
+    Unasked,
+    Granted,
+    Refused,
+}
