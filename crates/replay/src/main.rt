@@ -1,14 +1,15 @@
 // Replays a run card from standard input, and prints what each of its calls was answered.
 mod input;
-mod listing;
-mod run;
 
-use crate::listing::LineDisplay;
-use crate::listing::TotalsDisplay;
 use allocator::AllocationTracker;
 use allocator::TrackerAllocates;
 use cards::Blank;
 use cards::Card;
+use job::LineDisplay;
+use job::Totals;
+use job::TotalsDisplay;
+use job::run_entries;
+use session::Session;
 use std::alloc::Global;
 use std::error::AnyError;
 use sub_allocator::SubAllocates;
@@ -48,13 +49,13 @@ fn open(rt: &LibcRuntime, heap: Global, card: &Card) -> Result<(), AnyError> {
         return refuse(rt, 12);
     };
     let memory = SubAllocator::new(buffer.as_mut_slice(), FIRST + RESERVED);
-    let mut tracker = AllocationTracker::new(memory);
-    let lines = run::run(&mut tracker, heap, card.entries())?;
-    let (stats, _) = tracker.into_stats();
+    let mut session = Session::open(AllocationTracker::new(memory));
+    let lines = run_entries(&mut session, heap, card.entries())?;
+    let (stats, _) = session.finish().into_stats();
     for line in lines {
         println!(rt, "{line}")?;
     }
-    let totals = listing::Totals {
+    let totals = Totals {
         stats,
         grown: 0,
         held,

@@ -1,22 +1,30 @@
 // The lines that are printed of a run.
+ghost use Rattle.std.specs.declared.option.Option.the-variants.{Some};
+ghost use Rattle.job.specs.Texts.{answerText, lineText, totalsText};
 use allocator::AllocationStats;
 use cards::Letter;
+use session::Fault;
 use std::fmt;
 
-// What an entry was answered: the address of a push, a pop that is done, or the number of a refusal.
+// What an entry was answered: the address of a push, a pop that is done, or a refusal.
 #[derive(Clone, Copy)]
 pub enum Answer {
     At(usize),
     Done,
-    Refused(u32),
+    Refused(Fault),
 }
 
 pub impl fmt::Display for Answer as AnswerDisplay {
+    ghost shown = { λ x. Some (answerText x) };
+
     fn fmt<W: fmt::Write>(&self, f: &mut fmt::Formatter<W>) -> fmt::Result {
         match *self {
             Answer::At(address) => write!(f, "{address}"),
             Answer::Done => write!(f, "ok"),
-            Answer::Refused(number) => write!(f, "refused {number}"),
+            Answer::Refused(fault) => {
+                let number = fault.number();
+                write!(f, "refused {number}")
+            }
         }
     }
 }
@@ -30,6 +38,8 @@ pub struct Line {
 }
 
 pub impl fmt::Display for Line as LineDisplay {
+    ghost shown = { λ x. Some (lineText x) };
+
     fn fmt<W: fmt::Write>(&self, f: &mut fmt::Formatter<W>) -> fmt::Result {
         let number = self.number;
         let letter = self.letter.letter();
@@ -47,6 +57,8 @@ pub struct Totals {
 }
 
 pub impl fmt::Display for Totals as TotalsDisplay {
+    ghost shown = { λ x. Some (totalsText x) };
+
     fn fmt<W: fmt::Write>(&self, f: &mut fmt::Formatter<W>) -> fmt::Result {
         let bytes = self.stats.max_bytes_allocated;
         let spans = self.stats.max_allocations;
