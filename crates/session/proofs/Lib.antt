@@ -9,3 +9,6 @@ mod Invariant
 mod Traces
 pub mod Laws
 mod Statistics
+mod Worked
+mod Lives
+mod Uses

@@ -8,6 +8,7 @@ ghost use Rattle.session.specs.Steps.{fresh};
 ghost use Rattle.session.specs.Records.{live, NotAmong, Found, Held};
 ghost use Rattle.session.specs.Sessions.{state, pushed, popped, ended, loaded, Performs};
 ghost use Rattle.session.specs.Runs.{SessionLaw};
+ghost use Rattle.session.specs.Growth.{GrowthLaw};
 ghost use Rattle.session.specs.Statistics.{tracked, StatisticsLaw};
 ghost use Rattle.allocator.specs.Stats.{unused};
 use super::Session;
@@ -49,6 +50,7 @@ impl<A: Allocator> Session<A> {
         ensures inner { λ r. ⌜ r .inner ≡ inner ⌝ }
         ensures fresh { λ r. ⌜ state A·Allocator r ≡ fresh (A·Allocator .blocks inner) ⌝ }
         ensures law { λ r. ⌜ SessionLaw A·Allocator r ⌝ }
+        ensures growth { λ r. ⌜ GrowthLaw A·Allocator r ⌝ }
     {
         Session {
             inner,
