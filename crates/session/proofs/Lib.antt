@@ -11,4 +11,4 @@ pub mod Laws
 mod Statistics
 mod Worked
 mod Lives
-mod Uses
+pub mod Uses

@@ -15,6 +15,7 @@ use Rattle.session.specs.Steps.{State, Step, refuses, serves, pops, popsNewest
 use Rattle.session.specs.Sessions.{state, Own, OwnPopped}
 use Rattle.session.specs.Runs.{Run, opened, visited}
 use Rattle.session.specs.Growth.{Life, visits, grows, Grew, GrowsAsArena, largestNeed, GrowthLaw}
+use Rattle.session.specs.Statistics.{tracked}
 use Rattle.session.specs.declared.fault.Fault.{Fault}
 use Rattle.session.specs.declared.fault.Fault.the-variants.{NotNewest, NotLive, Full, Outside, Allocator}
 use Rattle.session.specs.declared.session.Session.{Session}
@@ -85,3 +86,12 @@ module _ {A : Type 0} (al : Ghosts A) (growths : A → ℕ) (arena : GrowsAsAren
 pub growth-law : {A : Type 0} (al : Ghosts A) (s : Session A) → GrowthLaw al s
 growth-law al s growths arena sound first before life events s′ run =
     let lives = both al growths arena first before s sound life run .1 in (lives, life-law first _ events _ _ _ lives .1)
+
+-- a tracker grows as the allocator inside does
+pub tracked-grows : {T : Type 0} (al : Ghosts T) (growths : T → ℕ) → GrowsAsArena al growths → GrowsAsArena (tracked al) (λ t. growths (t .inner))
+tracked-grows al growths arena =
+    record {
+      pushes = λ t t′ size align r own. arena .pushes (t .inner) (t′ .inner) size align r (own .0);
+      pops = λ t t′ at size r own. arena .pops (t .inner) (t′ .inner) at size r (own .0);
+      stores = λ t t′ at byte r own. arena .stores (t .inner) (t′ .inner) at byte r (own .0);
+    }
