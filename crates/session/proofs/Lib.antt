@@ -12,3 +12,5 @@ mod Statistics
 mod Worked
 mod Lives
 pub mod Uses
+pub mod Served
+mod Visits

@@ -4,9 +4,10 @@ use mathlib.Core.Bool.{true, false}
 use mathlib.Core.List.{List, [], _∷_}
 use mathlib.Core.Logic.{_⊎_, inl, inr}
 use Prim.Native.Nat.{ℕ, suc, _+_, _≤_, _<_, _^_}
+use native.Mathlib.Nat.{pow-le-pow-right}
 use native.Mathlib.Omega.{arith}
 use lib.ListN.{length}
-use Rattle.std.proofs.shelf.Tests.{or-from}
+use Rattle.std.proofs.shelf.Tests.{cases-lt, or-from}
 use Rattle.allocator.specs.Layouts.{Sized, Aligning}
 use Rattle.allocator.specs.Memory.{Memory, Lawful, within, inside, fits, placed, pushed}
 use Rattle.allocator.specs.Answers as allocators
@@ -18,7 +19,9 @@ use Rattle.session.specs.Ledger.{Span, newSpan, Among}
 use Rattle.session.specs.Calls.{push, granted}
 use Rattle.session.specs.Steps.{newState, TooMany, Step, refuses, serves, pops, popsNewest, loads, stores, doesNotFit, popNotLive, loadOutside}
 use Rattle.session.specs.Runs.{opened, visited}
-use Rattle.session.specs.Figures.{bare, block, LandsOnPopped, GrowsAndPops, RefusesAndReads, SessionFigures}
+use Rattle.session.specs.Growth as Growth
+use Rattle.session.specs.Growth.{LeastPower}
+use Rattle.session.specs.Figures.{block, LandsOnPopped, GrowsAndPops, RefusesAndReads, GrowsOnce, SessionFigures}
 use Rattle.session.specs.declared.live.LiveSpan.{LiveSpan}
 use Rattle.session.specs.declared.session.Session.{Session}
 
@@ -180,5 +183,28 @@ reads =
       ends = refl;
     }
 
+least : LeastPower 48 64
+least = record { exponent = 6; is = refl; enough = omega arith; least = go }
+  where
+    go : (other : ℕ) → 48 ≤ 2 ^ other → 64 ≤ 2 ^ other
+    go other h = elim (cases-lt other 6) [
+      | inl less ↦ absurd (let le : other ≤ 5 = omega arith in let bound : 2 ^ other ≤ 2 ^ 5 = pow-le-pow-right (omega arith) le in omega arith)
+      | inr more ↦ pow-le-pow-right (omega arith) more
+    ]
+
+arena : GrowsOnce
+arena = (
+  Growth.grows
+      (Growth.visits
+      (Growth.begins (block 16 0 16) refl (alone 16 0 16 (omega arith) (omega arith)))
+      (serve (block 16 0 16 ∷ []) [] 0 12 4 (omega arith, omega arith) four (omega arith) (omega arith) refl)
+      (alone 16 12 16 (omega arith) (omega arith)) refl)
+      (serves (omega arith, omega arith) eight (few-live (block 16 12 16 ∷ []) (newSpan 1 16 12 4 ∷ []) 1 (omega arith) (omega arith)) (allocators.further refl (block 64 24 48) refl refl refl))
+      (both 24 (omega arith))
+      (omega arith)
+      (record { power = 64; large = least; is = refl }),
+  refl,
+)
+
 pub worked : SessionFigures
-worked = record { lands = lands; grows = grows; refuses = reads }
+worked = record { lands = lands; grows = grows; refuses = reads; arena = arena }

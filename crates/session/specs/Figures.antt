@@ -12,7 +12,8 @@ use Rattle.session.specs.Calls.{push, pop, popNewest, load, store, granted, do
 use Rattle.session.specs.Steps.{State, newState, fresh}
 use Rattle.session.specs.Sessions.{state}
 use Rattle.session.specs.Runs.{Run}
-use Rattle.session.specs.declared.fault.Fault.the-variants.{NotNewest, NotLive, Outside, Allocator}
+use Rattle.session.specs.Growth.{Life, held}
+use Rattle.session.specs.declared.fault.Fault.the-variants.{NotLive, Outside, Allocator}
 use Rattle.session.specs.declared.session.Session.{Session}
 
 -- blocks alone, as an allocator under the rules of all and no others
@@ -58,7 +59,15 @@ RefusesAndReads = Comes (block 0 0 16 ∷ [])
     ∷ event (push 16 1) (refused (Allocator (DoesNotFit FixedBuffer))) ∷ event (push 8 8) (granted 1 0) ∷ [])
     (newState (record { base = 0; mark = 8; bytes = 0 ∷ 0 ∷ 0 ∷ 7 ∷ replicate 12 0 } ∷ []) (newSpan 1 0 8 8 ∷ []) 1)
 
+-- An arena of one block of 32 bytes grows for the same pushes: 48 bytes want a block of 64, it then holds 96, and its need is 36 bytes and twice 7 of padding.
+abbrev pub GrowsOnce : Type 0
+GrowsOnce =
+    Life 32 (block 16 0 16 ∷ []) (event (push 24 8) (granted 2 64) ∷ event (push 12 4) (granted 1 16) ∷ [])
+    (newState (block 64 24 48 ∷ block 16 16 16 ∷ []) (newSpan 2 64 24 8 ∷ newSpan 1 16 12 4 ∷ []) 2) 1 50
+    × (held (block 64 24 48 ∷ block 16 16 16 ∷ []) ≡ 96)
+
 pub record SessionFigures : Type 0 where
   pub lands : LandsOnPopped
   pub grows : GrowsAndPops
   pub refuses : RefusesAndReads
+  pub arena : GrowsOnce

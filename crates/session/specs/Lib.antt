@@ -9,3 +9,4 @@ pub mod Runs
 pub mod Statistics
 pub mod Figures
 pub mod Growth
+pub mod Visits

@@ -4,9 +4,11 @@ mod figures;
 mod grant;
 mod live;
 mod session;
+mod visit;
 
 pub use fault::Fault;
 pub use fault::FaultFromAllocator;
 pub use figures::session_figures;
 pub use grant::Grant;
 pub use session::Session;
+pub use visit::round_trip;
