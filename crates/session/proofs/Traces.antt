@@ -10,19 +10,22 @@ use lib.ListN.{length}
 use Rattle.std.proofs.shelf.Tests.{both-ways, leb-false}
 use Rattle.std.specs.declared.result.Result.the-variants.{Ok, Err}
 use Rattle.allocator.specs.Layouts.{pad, Sized, Aligning}
-use Rattle.allocator.specs.Memory.{Memory, Lawful, top, fits, pushed, placed, popped, taken, byteAt}
+use Rattle.allocator.specs.Memory as memory
+use Rattle.allocator.specs.Memory.{Memory, Lawful, fits, pushed, placed, popped, within, taken, byteAt}
 use Rattle.allocator.specs.Answers as allocators
 use Rattle.allocator.specs.Answers.{Push}
 use Rattle.allocator.specs.declared.fault.Cause.{Cause}
 use Rattle.allocator.specs.declared.fault.Fault.the-variants.{DoesNotFit, Address}
 use Rattle.allocator.proofs.Powers.{aligning-some}
+use Rattle.allocator.proofs.Spans.{within-full, byteAt-full}
 use Rattle.session.specs.Ledger.{Span, newSpan, Ledger, adds, removes, fed, bytes, Among, LastStored, needWith}
 use Rattle.session.specs.Calls.{Call, push, load, Answer, byte, refused, entry, Event, ledgerOf}
 use Rattle.session.specs.Steps.{State, newState, Refuses, badSize, badAlign, full, doesNotFit, popUntaken, popNewestUntaken, loadNotLive, loadOutside, loadUntaken, storeUntaken, Step, refuses, serves, pops, popsNewest, loads, stores, Trace, started, stepped}
-use Rattle.session.specs.Laws.{Each, InOneBlock, AllSeparate, Aligned, capacity, Strained, Separation, Need}
+use Rattle.session.specs.Laws.{Each, InOneBlock, AllSeparate, Aligned, StoresTo, capacity, Strained, Separation, Need}
 use Rattle.session.specs.declared.fault.Fault.{Fault}
 use Rattle.session.specs.declared.fault.Fault.the-variants.{Allocator}
 use Rattle.session.proofs.Rounding.{up}
+use Rattle.session.proofs.Blocks.{byteAt-further, byteAt-popped, byteAt-other}
 use Rattle.session.proofs.Stack.{Lies, Taken, tight-raised, tight-bound}
 use Rattle.session.proofs.Grants.{each-at, each-map, unique}
 use Rattle.session.proofs.Invariant.{Inv, opening, fitted, furthered, largest-more, popped-inv, stored-inv, placed-lies, placed-separate, placed-taken}
@@ -85,6 +88,10 @@ pushed-length : (m : Memory) (size align : ℕ) → length (pushed m size align)
 pushed-length [] size align = refl
 pushed-length (b ∷ older) size align = refl
 
+byteAt-pushed : (m : Memory) (size align at : ℕ) → byteAt (pushed m size align) at ≡ byteAt m at
+byteAt-pushed [] size align at = refl
+byteAt-pushed (b ∷ older) size align at = refl
+
 further-unfit : (m : Memory) (size align at : ℕ) (after : Memory) → Push m size align (Ok at) after → length m < length after → fits m size align ≡ false
 further-unfit m size align at after (allocators.fitted fit answer is) more = absurd (omega (arith, ap length is, pushed-length m size align))
 further-unfit m size align at after (allocators.further unfit block answer ends is) more = unfit
@@ -145,6 +152,23 @@ load-reads {start = start} {ledger = ledger} {s = s} inv (loads other offset the
     let same : other .at + offset ≡ span .at + offset = omega (arith, ap (λ (x : Span). x .at) (one-span start ledger s inv span other here there e)) in
     ap (λ x. byte (byteAt (s .memory) x)) same ∙ ap byte (inv .kept span here offset value less last)
 
+-- no call but a store changes a byte
+served-keeps : (m : Memory) (size align at : ℕ) (after : Memory) → Push m size align (Ok at) after → Lawful after → (x : ℕ) → within m x ≡ true → byteAt after x ≡ byteAt m x
+served-keeps m size align at after (allocators.fitted fit answer is) lawful x there = ap (λ n. byteAt n x) is ∙ byteAt-pushed m size align x
+served-keeps m size align at after (allocators.further unfit block answer ends is) lawful x there =
+    ap (λ n. byteAt n x) is ∙ byteAt-further block (memory.full m) x (subst Lawful is lawful .2) (within-full m x ∙ there) ∙ byteAt-full m x
+served-keeps m size align at after (allocators.refused unfit cause answer is) lawful x there = ap (λ n. byteAt n x) is
+
+step-keeps : {s s′ : State} {call : Call} {answer : Answer} → Step s call answer s′ → Lawful (s′ .memory) → (x : ℕ) → within (s .memory) x ≡ true → (StoresTo (s .live) call answer x → ⊥) →
+    byteAt (s′ .memory) x ≡ byteAt (s .memory) x
+step-keeps (refuses why) lawful x there other = refl
+step-keeps {s = s} (serves {size = size} {align = align} {at = at} {after = after} sized aligning room rule) lawful x there other = served-keeps (s .memory) size align at after rule lawful x there
+step-keeps {s = s} (pops span older newest on) lawful x there other = byteAt-popped (s .memory) (span .at) x
+step-keeps {s = s} (popsNewest span older newest on) lawful x there other = byteAt-popped (s .memory) (span .at) x
+step-keeps (loads span offset here less on) lawful x there other = refl
+step-keeps {s = s} (stores span offset value here less on) lawful x there other =
+    byteAt-other (s .memory) (span .at + offset) value x (λ same. other (span, offset, value, here, refl, refl, same))
+
 pub trace-law : (start : Memory) (events : List Event) (s : State) → Trace start events s → Separation (ledgerOf events) s × Need start (ledgerOf events) s
 trace-law start events s run = (
   record {
@@ -159,6 +183,8 @@ trace-law start events s run = (
           subst (λ v. Step s (load (span .grant) offset) (byte v) s) (inv .kept span here offset value less last) (loads span offset here less (live-taken start ledger s inv span here offset less)),
           λ other after step. load-reads inv step span here refl value less last,
         );
+    kept = λ call answer after step lawful at there other.
+        step-keeps step lawful at there (λ (span, offset, value, here, named, answered, same). other (span, offset, value, subst (λ l. Among span l) (sym (inv .agrees)) here, named, answered, same));
   },
   need-holds start ledger s inv,
 )

@@ -8,38 +8,22 @@ use lib.ListN.{length}
 use Rattle.std.specs.declared.result.Result.the-variants.{Ok, Err}
 use Rattle.allocator.specs.Memory.{Memory, Lawful}
 use Rattle.allocator.specs.declared.Allocator.{Ghosts}
-use Rattle.allocator.specs.declared.fault.Fault.the-variants.{Size, Alignment, DoesNotFit, Address}
-use Rattle.session.specs.Ledger.{Span, need}
-use Rattle.session.specs.Calls.{Call, push, pop, popNewest, load, store, Answer, refused, Event, event, ledgerOf}
+use Rattle.allocator.specs.declared.fault.Fault.the-variants.{DoesNotFit, Address}
+use Rattle.session.specs.Ledger.{need}
+use Rattle.session.specs.Calls.{Call, Answer, refused, Event, event, ledgerOf}
 use Rattle.session.specs.Steps.{State, Step, refuses, serves, pops, popsNewest, loads, stores}
 use Rattle.session.specs.Sessions.{state, Own, OwnPopped}
 use Rattle.session.specs.Runs.{Run, opened, visited}
 use Rattle.session.specs.Growth.{Life, visits, grows, Grew, GrowsAsArena, largestNeed, GrowthLaw}
 use Rattle.session.specs.Statistics.{tracked}
-use Rattle.session.specs.declared.fault.Fault.{Fault}
-use Rattle.session.specs.declared.fault.Fault.the-variants.{NotNewest, NotLive, Full, Outside, Allocator}
+use Rattle.session.specs.declared.fault.Fault.the-variants.{Allocator}
 use Rattle.session.specs.declared.session.Session.{Session}
 use Rattle.session.proofs.Blocks.{length-full}
+use Rattle.session.proofs.Owns.{refusal-own}
 use Rattle.session.proofs.Lives.{served-same, popped-same, stored-same, life-law}
 use Rattle.session.proofs.Traces.{trace-law}
 
-module _ {A : Type 0} (al : Ghosts A) (growths : A → ℕ) (arena : GrowsAsArena al growths) (a a′ : A) (spans : List Span) where
-  -- a refusal counts no growth
-  refused-same : (call : Call) (fault : Fault) → al .blocks a′ ≡ al .blocks a → (fault ≡ Allocator Address → ⊥) → Own al a a′ spans call (refused fault) → growths a′ ≡ growths a
-  refused-same (push size align) (Allocator (DoesNotFit cause)) same ne own = arena .pushes a a′ size align (Err (DoesNotFit cause)) own .1 (ap length same)
-  refused-same (push size align) (Allocator Size) same ne own = ap growths own
-  refused-same (push size align) (Allocator Alignment) same ne own = ap growths own
-  refused-same (push size align) (Allocator Address) same ne own = absurd own
-  refused-same (push size align) Full same ne own = ap growths own
-  refused-same (push size align) NotNewest same ne own = absurd own
-  refused-same (push size align) NotLive same ne own = absurd own
-  refused-same (push size align) Outside same ne own = absurd own
-  refused-same (pop grant) fault same ne own = ap growths (own ne)
-  refused-same popNewest fault same ne own = ap growths (own ne)
-  refused-same (load grant offset) fault same ne own = ap growths own
-  refused-same (store grant offset value) fault same ne own = ap growths (own ne)
-
-module _ {A : Type 0} (al : Ghosts A) (growths : A → ℕ) (arena : GrowsAsArena al growths) (first : ℕ) (start : Memory) (earlier : List Event) (most : ℕ) (a a′ : A) where
+module _ {A : Type 0} (al : Ghosts A) (growths : A → ℕ) (arena : GrowsAsArena al growths) (first : ℕ) (start : Memory) (earlier : List Event) (most : ℕ) (a a′ : A) (sound : al .sound a) (sound′ : al .sound a′) where
   abbrev After : Call → Answer → State → ℕ → Type 0
   After call answer s′ n = Life first start (event call answer ∷ earlier) s′ n (max most (need (ledgerOf (event call answer ∷ earlier))))
 
@@ -49,11 +33,14 @@ module _ {A : Type 0} (al : Ghosts A) (growths : A → ℕ) (arena : GrowsAsAren
   life-step : {s s′ : State} {call : Call} {answer : Answer} → al .blocks a ≡ s .memory → al .blocks a′ ≡ s′ .memory → ((after : State) → Step s call (refused (Allocator Address)) after → ⊥) →
       Life first start earlier s (growths a) most → Step s call answer s′ → Lawful (s′ .memory) → Own al a a′ (s .live) call answer → After call answer s′ (growths a′)
   life-step {s = s} {call = call} e e′ reached life (refuses {fault = fault} why) lawful own =
-      let ne : fault ≡ Allocator Address → ⊥ = λ is. reached s (subst (λ f. Step s call (refused f) s) is (refuses why)) in
-      with-count (refused-same al growths arena a a′ (s .live) call fault (e′ ∙ sym e) ne own) (visits life (refuses why) lawful refl)
+      let same : growths a′ ≡ growths a = elim (refusal-own al a a′ (s .live) s call fault reached why own) [
+        | inl is ↦ ap growths is
+        | inr (size, align, cause, rule) ↦ arena .pushes a a′ size align (Err (DoesNotFit cause)) sound sound′ rule .1 (ap length (e′ ∙ sym e))
+      ] in
+      with-count same (visits life (refuses why) lawful refl)
   life-step {s = s} {s′ = s′} e e′ reached life (serves {size = size} {align = align} {at = at} {after = after} sized aligning room rule) lawful own =
       let grew : Grew (s .memory) (growths a) size align after (growths a′) = subst (λ m. Grew (s .memory) (growths a) size align m (growths a′)) e′
-      (subst (λ m. Grew m (growths a) size align (al .blocks a′) (growths a′)) e (arena .pushes a a′ size align (Ok at) own)) in
+      (subst (λ m. Grew m (growths a) size align (al .blocks a′) (growths a′)) e (arena .pushes a a′ size align (Ok at) sound sound′ own)) in
       elim (served-same (s .memory) size align at after rule) [
         | inl same ↦ with-count (grew .1 (same .count)) (visits life (serves sized aligning room rule) lawful (same .count))
         | inr (b, is) ↦
@@ -61,13 +48,13 @@ module _ {A : Type 0} (al : Ghosts A) (growths : A → ℕ) (arena : GrowsAsAren
             with-count (grew .0 more .1) (grows life (serves sized aligning room rule) lawful more (grew .0 more .0))
       ]
   life-step {s = s} {s′ = s′} e e′ reached life (pops span older newest there) lawful own =
-      with-count (arena .pops a a′ (span .at) (span .size) (Ok tt) (subst (λ l. OwnPopped al a a′ l) newest own)) (visits life (pops span older newest there) lawful (popped-same (s .memory) (span .at) .count))
+      with-count (arena .pops a a′ (span .at) (span .size) (Ok tt) sound sound′ (subst (λ l. OwnPopped al a a′ l) newest own)) (visits life (pops span older newest there) lawful (popped-same (s .memory) (span .at) .count))
   life-step {s = s} {s′ = s′} e e′ reached life (popsNewest span older newest there) lawful own =
-      with-count (arena .pops a a′ (span .at) (span .size) (Ok tt) (subst (λ l. OwnPopped al a a′ l) newest own)) (visits life (popsNewest span older newest there) lawful (popped-same (s .memory) (span .at) .count))
+      with-count (arena .pops a a′ (span .at) (span .size) (Ok tt) sound sound′ (subst (λ l. OwnPopped al a a′ l) newest own)) (visits life (popsNewest span older newest there) lawful (popped-same (s .memory) (span .at) .count))
   life-step {s = s} {s′ = s′} e e′ reached life (loads span offset here less there) lawful own =
       with-count (ap growths own) (visits life (loads span offset here less there) lawful refl)
   life-step {s = s} {s′ = s′} e e′ reached life (stores span offset value here less there) lawful own =
-      with-count (arena .stores a a′ (own .0 .at + offset) value (Ok tt) (own .3)) (visits life (stores span offset value here less there) lawful (stored-same (s .memory) (span .at + offset) value .count))
+      with-count (arena .stores a a′ (own .0 .at + offset) value (Ok tt) sound sound′ (own .3)) (visits life (stores span offset value here less there) lawful (stored-same (s .memory) (span .at + offset) value .count))
 
 module _ {A : Type 0} (al : Ghosts A) (growths : A → ℕ) (arena : GrowsAsArena al growths) (first before : ℕ) (s : Session A) (sound : al .sound (s .inner))
     (life : Life first (state al s .memory) [] (state al s) (growths (s .inner)) before) where
@@ -79,7 +66,7 @@ module _ {A : Type 0} (al : Ghosts A) (growths : A → ℕ) (arena : GrowsAsAren
       let performed = performs sound1 in
       let stand = trace-law _ _ _ (life-law first _ earlier _ _ _ life1 .0) .0 in (
         performed .sound,
-        life-step al growths arena first (state al s .memory) earlier (largestNeed before earlier) (s1 .inner) (s2 .inner) refl refl (λ after step. stand .reached call after step) life1 (performed .step)
+        life-step al growths arena first (state al s .memory) earlier (largestNeed before earlier) (s1 .inner) (s2 .inner) sound1 (performed .sound) refl refl (λ after step. stand .reached call after step) life1 (performed .step)
             (al .lawful (s2 .inner) (performed .sound)) (performed .own),
       )
 
@@ -91,7 +78,7 @@ growth-law al s growths arena sound first before life events s′ run =
 pub tracked-grows : {T : Type 0} (al : Ghosts T) (growths : T → ℕ) → GrowsAsArena al growths → GrowsAsArena (tracked al) (λ t. growths (t .inner))
 tracked-grows al growths arena =
     record {
-      pushes = λ t t′ size align r own. arena .pushes (t .inner) (t′ .inner) size align r (own .0);
-      pops = λ t t′ at size r own. arena .pops (t .inner) (t′ .inner) at size r (own .0);
-      stores = λ t t′ at byte r own. arena .stores (t .inner) (t′ .inner) at byte r (own .0);
+      pushes = λ t t′ size align r sound sound′ own. arena .pushes (t .inner) (t′ .inner) size align r sound sound′ (own .0);
+      pops = λ t t′ at size r sound sound′ own. arena .pops (t .inner) (t′ .inner) at size r sound sound′ (own .0);
+      stores = λ t t′ at byte r sound sound′ own. arena .stores (t .inner) (t′ .inner) at byte r sound sound′ (own .0);
     }

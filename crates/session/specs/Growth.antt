@@ -77,10 +77,10 @@ Grew m growths size align m′ growths′ =
 
 -- an allocator whose own rules say that it grows as an arena does, and counts its growths
 pub record GrowsAsArena {A : Type 0} (allocator : Ghosts A) (growths : A → ℕ) : Type 0 where
-  pub pushes : (a a′ : A) (size align : ℕ) (r : Result ℕ Fault) → allocator .pushes a size align r a′ →
+  pub pushes : (a a′ : A) (size align : ℕ) (r : Result ℕ Fault) → allocator .sound a → allocator .sound a′ → allocator .pushes a size align r a′ →
       Grew (allocator .blocks a) (growths a) size align (allocator .blocks a′) (growths a′)
-  pub pops : (a a′ : A) (at size : ℕ) (r : Result (Unit {0}) Fault) → allocator .pops a at size r a′ → growths a′ ≡ growths a
-  pub stores : (a a′ : A) (at byte : ℕ) (r : Result (Unit {0}) Fault) → allocator .stores a at byte r a′ → growths a′ ≡ growths a
+  pub pops : (a a′ : A) (at size : ℕ) (r : Result (Unit {0}) Fault) → allocator .sound a → allocator .sound a′ → allocator .pops a at size r a′ → growths a′ ≡ growths a
+  pub stores : (a a′ : A) (at byte : ℕ) (r : Result (Unit {0}) Fault) → allocator .sound a → allocator .sound a′ → allocator .stores a at byte r a′ → growths a′ ≡ growths a
 
 -- the largest need of these calls, and of what was before them
 abbrev pub largestNeed : ℕ → List Event → ℕ

@@ -142,7 +142,7 @@ impl<A: Allocator> Session<A> {
         Ok(self.inner.store(at, byte)?)
     }
 
-    // The address of a byte of the grant's span. Of a sound allocator the sum is never cut.
+    // The address of a byte of the grant's span. The spans of a sound allocator end far below the last number, so the sum is not cut.
     fn address(&self, grant: &Grant, offset: usize) -> Result<usize, Fault>
         ensures { λ r. ⌜ ByOk r (λ at. Addressed (state A·Allocator (now (self .entry)) .live) (now (grant .entry) .number) offset at) (Unaddressed (state A·Allocator (now (self .entry)) .live) (now (grant .entry) .number) offset) ⌝ }
     {
