@@ -9,3 +9,8 @@ mod Invariant
 mod Traces
 pub mod Laws
 mod Statistics
+mod Worked
+mod Lives
+pub mod Uses
+pub mod Served
+mod Visits

@@ -7,3 +7,6 @@ pub mod Sessions
 pub mod Laws
 pub mod Runs
 pub mod Statistics
+pub mod Figures
+pub mod Growth
+pub mod Visits
