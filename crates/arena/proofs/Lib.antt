@@ -1,0 +1,4 @@
+mod Table
+mod Joins
+mod Sources
+mod Steps

@@ -1,0 +1,12 @@
+// An arena allocator: blocks of a source, kept for use after use.
+mod arena;
+mod fault;
+mod power;
+mod record;
+mod ring;
+
+pub use arena::Arena;
+pub use arena::ArenaHandle;
+pub use arena::HandleAllocates;
+pub use fault::ArenaFault;
+pub use fault::ArenaFaultFromSource;
