@@ -18,6 +18,7 @@ mod slot;
 pub use slot::Slot;
 
 // The blocks stand in the first slots, the oldest first.
+#[derive(Drop)]
 pub struct Region {
     bytes: Vec<u8>,
     slots: [Slot; 32],

@@ -1,27 +1,23 @@
 // Replays a run card from standard input, and prints what each of its calls was answered.
 mod input;
 
-use allocator::AllocationTracker;
 use allocator::TrackerAllocates;
+use arena::Arena;
+use arena::HandleAllocates;
 use cards::Blank;
 use cards::Card;
 use job::LineDisplay;
 use job::Totals;
 use job::TotalsDisplay;
 use job::run_entries;
+use region::Region;
+use region::RegionGrants;
 use session::Session;
 use std::alloc::Global;
 use std::error::AnyError;
-use sub_allocator::SubAllocates;
-use sub_allocator::SubAllocator;
 
-// The largest capacity that a first block is opened for.
-const MOST_CAPACITY: usize = 16_777_216;
-
-// The front bytes of a block are reserved, and the first block has the address 4,096.
-const RESERVED: usize = 16;
-
-const FIRST: usize = 4096;
+// How many bytes the region has.
+const REGION_BYTES: usize = 49_152;
 
 fn main(rt: LibcRuntime) -> Result<(), AnyError> {
     rt.report(replay(&rt, rt.alloc()))
@@ -39,26 +35,23 @@ fn replay(rt: &LibcRuntime, heap: Global) -> Result<(), AnyError> {
     }
 }
 
-// Runs the card on a tracker over a buffer that is as large as the first block of an arena of its capacity.
+// Runs the card in a session on a tracker on an arena on a region.
 fn open(rt: &LibcRuntime, heap: Global, card: &Card) -> Result<(), AnyError> {
-    if card.capacity() > MOST_CAPACITY {
-        return refuse(rt, 10);
+    let mut arena = Arena::new(Region::new(vec![in heap; 0u8; REGION_BYTES]?));
+    if let Err(fault) = arena.with_capacity(card.capacity()) {
+        return refuse(rt, fault.number());
     }
-    let held = (card.capacity() + RESERVED).next_power_of_two();
-    let Ok(mut buffer) = vec![in heap; 0u8; held - RESERVED] else {
-        return refuse(rt, 12);
-    };
-    let memory = SubAllocator::new(buffer.as_mut_slice(), FIRST + RESERVED);
-    let mut session = Session::open(AllocationTracker::new(memory));
+    let mut session = Session::track(arena.acquire());
     let lines = run_entries(&mut session, heap, card.entries())?;
-    let (stats, _) = session.finish().into_stats();
+    let (stats, handle) = session.finish().into_stats();
     for line in lines {
         println!(rt, "{line}")?;
     }
+    let arena = handle.release();
     let totals = Totals {
         stats,
-        grown: 0,
-        held,
+        grown: arena.growths(),
+        held: arena.held(),
     };
     println!(rt, "{totals}")?;
     Ok(())
