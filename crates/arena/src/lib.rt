@@ -9,4 +9,7 @@ pub use arena::Arena;
 pub use arena::ArenaHandle;
 pub use arena::HandleAllocates;
 pub use fault::ArenaFault;
+pub use fault::ArenaFaultDebug;
+pub use fault::ArenaFaultEq;
 pub use fault::ArenaFaultFromSource;
+pub use fault::ArenaFaultPartialEq;

@@ -2,8 +2,11 @@
 ghost use mathlib.Core.Path.{_≡_};
 ghost use Rattle.session.specs.Faults.{refusal};
 ghost use Rattle.session.specs.declared.fault.Fault.the-variants.{Allocator};
+use allocator::FaultDebug as AllocatorFaultDebug;
+use allocator::FaultEq as AllocatorFaultEq;
+use allocator::FaultPartialEq as AllocatorFaultPartialEq;
 
-#[derive(Clone, Copy)]
+#[derive(Clone, Copy, Debug, PartialEq, Eq)]
 pub enum Fault {
     // the grant is live, and a newer one is too
     NotNewest,

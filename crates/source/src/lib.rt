@@ -12,6 +12,9 @@ mod outcome;
 
 pub use fault::FaultFromSource;
 pub use fault::SourceFault;
+pub use fault::SourceFaultDebug;
+pub use fault::SourceFaultEq;
+pub use fault::SourceFaultPartialEq;
 pub use outcome::Outcome;
 
 // Blocks of memory, taken and given back in any order. The rules leave three things open: the address of a block, its bytes at first, and whether a

@@ -6,11 +6,17 @@ use sub_allocator::SubAllocates;
 use sub_allocator::SubAllocator;
 
 #[cfg(test)]
+mod arenas;
+#[cfg(test)]
 mod buffers;
 #[cfg(test)]
 mod cards;
 #[cfg(test)]
 mod layouts;
+#[cfg(test)]
+mod regions;
+#[cfg(test)]
+mod sessions;
 #[cfg(test)]
 mod trackers;
 
