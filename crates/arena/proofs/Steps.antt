@@ -6,6 +6,9 @@ use mathlib.Core.Logic.{inl, inr}
 use Prim.Native.Nat.{ℕ, suc, _+_, _-_, _*_, _%_, _^_, _<_, _≤_, max}
 use native.Mathlib.Nat.{two-pow-succ}
 use native.Mathlib.Omega.{arith}
+use mir.Syntax.{w64}
+use mir.Val.{Fits}
+use borrow.Author.Needs.{needs}
 use lib.Dec.{leb, ltb, eqb}
 use lib.ListN.{length, drop}
 use lib.Pow.{pow-mono}
@@ -29,9 +32,11 @@ use Rattle.arena.specs.Meaning.{usable, olders, memoryOf, Kept}
 use Rattle.arena.specs.Powers.{LeastPower, wanted}
 use Rattle.arena.specs.Arenas.{Arena, Consulted}
 use Rattle.arena.specs.Arenas as arenas
-use Rattle.arena.specs.Calls.{Marked, Extends, opening, pushing}
+use Rattle.arena.specs.Calls.{Marked, Extends, Opens, opening, pushing}
+use Rattle.arena.specs.Faults as faults
+use Rattle.source.specs.Faults as sources
 use Rattle.arena.specs.Keeps.{rise, contents-same, usable-length}
-use Rattle.arena.proofs.Table.{least-is}
+use Rattle.arena.proofs.Table.{least-is, least-small}
 use Rattle.arena.proofs.Sources.{granted-differs, granted-kept, granted-olders, full-olders}
 
 pub room-small : (ps : List Place) → rising ps ≡ true → room ps ≤ 67108864
@@ -202,3 +207,91 @@ cons-opened ps qs p e = ap opened e
 
 pub nil-opened : (ps : List Place) → ps ≡ [] → opened ps ≡ false
 nil-opened ps e = ap opened e
+
+-- the numbers of an arena are small
+pub doubles-fit : (last : ℕ) (ps : List Place) → newestSize ps ≡ last → rising ps ≡ true → Fits w64 (2 * last)
+doubles-fit last ps e r = let small = newest-small ps r in search needs
+
+pub growths-fit : (n : ℕ) (ps : List Place) → counted n ps ≡ true → rising ps ≡ true → Fits w64 (n + 1)
+growths-fit n ps c r = let few = few-growths n ps c r in search needs
+
+pub some-of : (n : ℕ) → 16 ≤ n → 0 < n
+some-of n h = omega arith
+
+pub below-48 : (n : ℕ) → n % 281474976710656 < 2 ^ 48
+below-48 n = omega arith
+
+-- an opening that asked the source
+module _ (s s′ : Source) (ps : List Place) (cap size growths : ℕ) (empty : ps ≡ []) (small : cap ≤ 16777216) (l : LeastPower (cap + 16) size) where
+  pub opening-some : 16 ≤ size
+  opening-some = omega (arith, l .above)
+
+  pub opening-high : size ≤ 67108864
+  opening-high = least-small (cap + 16) size l (omega arith)
+
+  pub opening-doubles : 2 * newestSize ps ≤ size
+  opening-doubles = let e = ap newestSize empty in omega arith
+
+  again′ : {X : Type 0} → opened ps ≡ true → X
+  again′ o = absurd (both-ways (opened ps) (ap opened empty) o)
+
+  pub opening-refused : {some : 0 < size} {high : size ≤ 67108864} (fault : SourceFault) → Dry s s′ size some high fault → Opens (record { source = s; blocks = ps; growths = growths }) cap (Err (faults.faultOf fault)) (record { source = s′; blocks = ps; growths = growths })
+  opening-refused fault d =
+      record {
+        again = again′;
+        large = λ _ h. absurd (omega arith);
+        asks = λ _ _. (ap faults.faultOf (d .is), ap (λ (x : Source). record { source = x; blocks = ps; growths = growths }) (d .after ∙ ap (λ (n : ℕ). blocks.refused s n) (least-is (cap + 16) size l)));
+      }
+
+  pub opening-granted : {some : 0 < size} {high : size ≤ 67108864} (ps′ : List Place) (at : ℕ) → Fresh s s′ size some high ps ps′ at → Opens (record { source = s; blocks = ps; growths = growths }) cap (Ok tt) (record { source = s′; blocks = ps′; growths = growths })
+  opening-granted ps′ at f =
+      record {
+        again = again′;
+        large = λ _ h. absurd (omega arith);
+        asks = λ _ _. record { at = at; bytes = f .bytes; many = f .many ∙ least-is (cap + 16) size l; after = f .begun growths };
+      }
+
+-- a push beyond the newest block, for which the arena wants one of n bytes
+module _ (s s′ : Source) (ps : List Place) (n last least size align sz al used growths : ℕ) (last-is : newestSize ps ≡ last) (n-is : n ≡ max (2 * last) least) (l : LeastPower (16 + sz + al) least) (sz-is : sz ≡ size) (al-is : al ≡ align) where
+  pub want : n ≡ wanted last size align
+  want = wanted-is n last least size align sz al n-is l sz-is al-is
+
+  want′ : n ≡ wanted (newestSize ps) size align
+  want′ = want ∙ ap (λ (x : ℕ). wanted x size align) (sym last-is)
+
+  pub grow-some : 16 ≤ n
+  grow-some = omega (arith, l .above)
+
+  pub grow-doubles : 2 * newestSize ps ≤ n
+  grow-doubles = omega arith
+
+  -- it has room for the span and its padding
+  pub grow-room : (p : Place) (qs rs : List Place) (padding sz′ : ℕ) → rs ≡ p ∷ qs → p .size ≡ n → padding < align → sz′ ≡ size → padding + sz′ ≤ room rs
+  grow-room p qs rs padding sz′ first size-is short many = let e = ap room first in omega (arith, l .above)
+
+  pub over-extends : 67108864 < n → Extends (record { source = s; blocks = ps; growths = growths }) used size align (Err (DoesNotFit cause.BlockLimit)) (record { source = s; blocks = ps; growths = growths }) used
+  over-extends over = record { beyond = λ _. (refl, refl); asks = λ under. absurd (omega (arith, want′)); marked = refl }
+
+  pub over-asked : 67108864 < n → leb (wanted last size align) 67108864 ≡ false
+  over-asked over = lt-leb _ _ (omega (arith, want))
+
+  pub under-asked : n ≤ 67108864 → leb (wanted last size align) 67108864 ≡ true
+  under-asked under = le-leb _ _ (omega (arith, want))
+
+  module _ (some : 0 < n) (under : n ≤ 67108864) where
+    pub refused-extends : (fault : SourceFault) → Dry s s′ n some under fault → Extends (record { source = s; blocks = ps; growths = growths }) used size align (Err (sources.faultOf fault)) (record { source = s′; blocks = ps; growths = growths }) used
+    refused-extends fault d =
+        record {
+          beyond = λ over. absurd (omega (arith, want′));
+          asks = λ _. (ap sources.faultOf (d .is), ap (λ (x : Source). record { source = x; blocks = ps; growths = growths }) (d .after ∙ ap (λ (m : ℕ). blocks.refused s m) want′));
+          marked = refl;
+        }
+
+    pub granted-extends : (ps′ : List Place) (at padding sz′ : ℕ) → Fresh s s′ n some under ps ps′ at → ps′ ≡ record { base = at % 281474976710656; size = n } ∷ ps → padding ≡ pad (at % 281474976710656 + 16) align → sz′ ≡ size →
+        Extends (record { source = s; blocks = ps; growths = growths }) used size align (Ok (at % 281474976710656 + 16 + padding)) (record { source = s′; blocks = ps′; growths = growths + 1 }) (padding + sz′)
+    granted-extends ps′ at padding sz′ f first pad-is many =
+        record {
+          beyond = λ over. absurd (omega (arith, want′));
+          asks = λ _. record { block = at; bytes = f .bytes; many = f .many ∙ want′; first = first-is _ _ _ _ (f .low) pad-is; after = f .grown growths };
+          marked = subst (λ (qs : List Place). Marked used size (Ok (at % 281474976710656 + 16 + padding)) qs (padding + sz′)) (sym first) (omega arith);
+        }
