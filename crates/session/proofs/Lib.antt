@@ -8,9 +8,9 @@ mod Stack
 mod Invariant
 mod Traces
 pub mod Laws
+pub mod Served
 mod Statistics
-mod Worked
 mod Lives
 pub mod Uses
-pub mod Served
 mod Visits
+mod Worked

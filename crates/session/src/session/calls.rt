@@ -21,6 +21,10 @@ use allocator::Allocator;
 use allocator::Layout;
 use allocator::TrackerAllocates;
 
+// How many spans may be live at once: the length of the record.
+const MOST_LIVE: usize = 64;
+
+// Fills the record where no span is live.
 fn blank() -> LiveSpan {
     match Layout::from_size_align(1, 1) {
         Ok(layout) => LiveSpan {
@@ -46,6 +50,7 @@ fn find(spans: &[LiveSpan; 64], count: usize, grant: u32) -> Option<LiveSpan>
 }
 
 impl<A: Allocator> Session<A> {
+    // Every run of calls from here keeps the law.
     pub fn open(inner: A) -> Session<A>
         ensures inner { λ r. ⌜ r .inner ≡ inner ⌝ }
         ensures fresh { λ r. ⌜ state A·Allocator r ≡ fresh (A·Allocator .blocks inner) ⌝ }
@@ -60,6 +65,7 @@ impl<A: Allocator> Session<A> {
         }
     }
 
+    // Answers the allocator, with whatever is still live.
     pub fn finish(self) -> A
         ensures { λ r. ⌜ r ≡ self .inner ⌝ }
     {
@@ -77,7 +83,7 @@ impl<A: Allocator> Session<A> {
         ensures { λ r. ⌜ Performs A·Allocator (now (self .entry)) (push size align) (pushed r) (now (self .exit)) ⌝ }
     {
         let layout = Layout::from_size_align(size, align)?;
-        if self.count == 64 || self.given == 4294967295 {
+        if self.count == MOST_LIVE || self.given == 4294967295 {
             return Err(Fault::Full);
         }
         let at = self.inner.push_alloc(layout)?;
@@ -176,6 +182,7 @@ impl<T: Allocator> Session<AllocationTracker<T>> {
         ensures growth { λ r. ⌜ GrowthLaw (tracked T·Allocator) r ⌝ }
         ensures statistics { λ r. ⌜ StatisticsLaw T·Allocator r ⌝ }
     {
-        Session::open(AllocationTracker::new(inner))
+        let tracker = AllocationTracker::new(inner);
+        Session::open(tracker)
     }
 }
