@@ -10,7 +10,7 @@ mod Traces
 pub mod Laws
 mod Statistics
 mod Worked
-mod Lives
+pub mod Lives
 pub mod Uses
 pub mod Served
 mod Visits
