@@ -1,4 +1,4 @@
 pub mod Table
 mod Joins
-mod Sources
-mod Steps
+pub mod Sources
+pub mod Steps

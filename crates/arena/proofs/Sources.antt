@@ -154,7 +154,7 @@ without-contents (b ∷ bs) a c ne = elim (cases-bool (eqb (b .base) c)) [
   | inr e ↦ rw e (ap (λ (x : List ℕ). cond (eqb (b .base) a) (b .bytes) x) (without-contents bs a c ne))
 ]
 
-given-contents : (s : Source) (ps : List Place) (a : ℕ) → Differs a ps → contents (givenBack s ps .blocks) a ≡ contents (s .blocks) a
+pub given-contents : (s : Source) (ps : List Place) (a : ℕ) → Differs a ps → contents (givenBack s ps .blocks) a ≡ contents (s .blocks) a
 given-contents s [] a d = refl
 given-contents s (p ∷ ps) a d = given-contents (having s (without (s .blocks) (p .base))) ps a (d .1) ∙ without-contents (s .blocks) a (p .base) (d .0)
 
