@@ -10,12 +10,7 @@ mod Traces
 pub mod Laws
 pub mod Served
 mod Statistics
-<<<<<<< HEAD
-mod Lives
-=======
-mod Worked
 pub mod Lives
->>>>>>> 3b5770db3176a8d8bc30539572b86da74a0db19f
 pub mod Uses
 mod Visits
 mod Worked

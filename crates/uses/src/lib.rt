@@ -50,7 +50,9 @@ pub fn begin<S: BlockSource>(arena: Arena<S>) -> Session<AllocationTracker<Arena
 }
 
 // Ends the use: its statistics, and the idle arena again.
-pub fn end<S: BlockSource>(session: Session<AllocationTracker<ArenaHandle<S>>>) -> (AllocationStats, Arena<S>)
+pub fn end<S: BlockSource>(
+    session: Session<AllocationTracker<ArenaHandle<S>>>,
+) -> (AllocationStats, Arena<S>)
     ensures stats { λ r. ⌜ r .0 ≡ session .inner .stats ⌝ }
     ensures released { λ r. ⌜ Released S·BlockSource (session .inner .inner) (r .1) ⌝ }
     ensures leaves { λ r. ⌜ Leaves S·BlockSource (session .inner .inner) (r .1) ⌝ }
