@@ -2,7 +2,6 @@
 mod input;
 
 use allocator::TrackerAllocates;
-use arena::Arena;
 use arena::HandleAllocates;
 use cards::Blank;
 use cards::Card;
@@ -12,9 +11,11 @@ use job::TotalsDisplay;
 use job::run_entries;
 use region::Region;
 use region::RegionGrants;
-use session::Session;
 use std::alloc::Global;
 use std::error::AnyError;
+use uses::begin;
+use uses::end;
+use uses::open;
 
 // How many bytes the region has.
 const REGION_BYTES: usize = 49_152;
@@ -30,24 +31,24 @@ fn replay(rt: &LibcRuntime, heap: Global) -> Result<(), AnyError> {
     };
     let text = &room.as_slice()[0..len];
     match Card::read(Blank::new(heap)?, text) {
-        Ok(card) => open(rt, heap, &card),
+        Ok(card) => run(rt, heap, &card),
         Err(fault) => refuse(rt, fault.number()),
     }
 }
 
 // Runs the card in a session on a tracker on an arena on a region.
-fn open(rt: &LibcRuntime, heap: Global, card: &Card) -> Result<(), AnyError> {
-    let mut arena = Arena::new(Region::new(vec![in heap; 0u8; REGION_BYTES]?));
-    if let Err(fault) = arena.with_capacity(card.capacity()) {
-        return refuse(rt, fault.number());
-    }
-    let mut session = Session::track(arena.acquire());
+fn run(rt: &LibcRuntime, heap: Global, card: &Card) -> Result<(), AnyError> {
+    let region = Region::new(vec![in heap; 0u8; REGION_BYTES]?);
+    let arena = match open(region, card.capacity()) {
+        Ok(arena) => arena,
+        Err((fault, _)) => return refuse(rt, fault.number()),
+    };
+    let mut session = begin(arena);
     let lines = run_entries(&mut session, heap, card.entries())?;
-    let (stats, handle) = session.finish().into_stats();
+    let (stats, arena) = end(session);
     for line in lines {
         println!(rt, "{line}")?;
     }
-    let arena = handle.release();
     let totals = Totals {
         stats,
         grown: arena.growths(),
