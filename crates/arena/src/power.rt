@@ -31,7 +31,7 @@ const POWERS: [usize; 23] = [
 ];
 
 // The least power of two at or above n, unless that is larger than any block.
-pub fn least_power(n: usize) -> Option<usize>
+pub(crate) fn least_power(n: usize) -> Option<usize>
     requires { ⌜ 16 ≤ n ⌝ }
     ensures { λ r. ⌜ BySome r (67108864 < n) (LeastPower n) ⌝ }
 {

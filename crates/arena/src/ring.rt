@@ -22,7 +22,7 @@ pub struct Ring {
 }
 
 impl Ring {
-    pub fn empty() -> Ring
+    pub(crate) fn empty() -> Ring
         ensures { λ r. ⌜ chain (r .records) (r .len) ≡ [] ⌝ }
     {
         let nothing = BlockRecord {
@@ -36,14 +36,14 @@ impl Ring {
         }
     }
 
-    pub fn len(&self) -> usize
+    pub(crate) fn len(&self) -> usize
         ensures { λ r. ⌜ r ≡ now (self .entry) .len ⌝ }
     {
         self.len
     }
 
     // The record at a place, counted from the oldest.
-    pub fn at(&self, i: usize) -> BlockRecord
+    pub(crate) fn at(&self, i: usize) -> BlockRecord
         requires { ⌜ i < now self .len ⌝ }
         ensures { λ r. ⌜ r ≡ nth (now (self .entry) .records) i ⌝ }
     {
@@ -51,7 +51,7 @@ impl Ring {
     }
 
     // The newest block.
-    pub fn tail(&self) -> Option<BlockRecord>
+    pub(crate) fn tail(&self) -> Option<BlockRecord>
         ensures { λ r. ⌜ BySome r (chain (now (self .entry) .records) (now (self .entry) .len) ≡ []) (λ b. Newest (now (self .entry) .records) (now (self .entry) .len) b) ⌝ }
     {
         if self.len == 0 {
@@ -61,7 +61,7 @@ impl Ring {
     }
 
     // How many bytes the blocks have together.
-    pub fn total(&self) -> usize
+    pub(crate) fn total(&self) -> usize
         ensures { λ r. ⌜ r ≡ total (chain (now (self .entry) .records) (now (self .entry) .len)) ⌝ }
     {
         let mut sum = 0;
@@ -87,7 +87,7 @@ impl Ring {
     }
 
     // Is the address one of a taken byte, where so many of the newest block's are taken?
-    pub fn taken(&self, used: usize, at: usize) -> bool
+    pub(crate) fn taken(&self, used: usize, at: usize) -> bool
         requires { ⌜ used ≤ 67108864 ⌝ }
         ensures { λ r. ⌜ ((bs : List Outstanding) → r ≡ taken (memoryOf bs (chain (now (self .entry) .records) (now (self .entry) .len)) used) at) ⌝ }
     {
@@ -101,7 +101,7 @@ impl Ring {
     }
 
     // Puts a further block between the newest and the first.
-    pub fn push_next(&mut self, address: usize, size: usize)
+    pub(crate) fn push_next(&mut self, address: usize, size: usize)
         requires some { ⌜ 16 ≤ size ⌝ }
         requires small { ⌜ size ≤ 67108864 ⌝ }
         requires low { ⌜ address < 2 ^ 48 ⌝ }
@@ -120,7 +120,7 @@ impl Ring {
     }
 
     // Leaves the newest block alone in the ring.
-    pub fn keep_newest(&mut self)
+    pub(crate) fn keep_newest(&mut self)
         ensures { λ _. ⌜ chain (now (self .exit) .records) (now (self .exit) .len) ≡ newest (chain (now (self .entry) .records) (now (self .entry) .len)) ⌝ }
     {
         let n = self.len;
