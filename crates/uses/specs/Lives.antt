@@ -3,6 +3,7 @@ use mathlib.Core.Path.{_≡_}
 use mathlib.Core.List.{List}
 use Prim.Native.Nat.{ℕ, _+_, _-_, _*_, _^_, _<_}
 use Rattle.std.specs.declared.result.Result.{Result}
+use Rattle.allocator.specs.declared.Allocator as allocators
 use Rattle.allocator.specs.declared.AllocationTracker.{AllocationTracker}
 use Rattle.source.specs.declared.BlockSource.{Ghosts}
 use Rattle.arena.specs.Rings.{newestSize, total, before}
@@ -87,12 +88,19 @@ pub record Bounded (first growths most held : ℕ) : Type 0 where
 abbrev pub ArenaLaw : {S : Type 0} → Ghosts S → Arena S → Type 0
 ArenaLaw {S} source first = (now : Moment S) (most : ℕ) → Life source first now most → Bounded (newestSize (blocksOf (first .ring))) (growthsAt now) most (heldAt now)
 
--- a life that has come to the idle arena goes on with every run from the session
-abbrev pub Visits : {S : Type 0} → Ghosts S → Arena S → Session (AllocationTracker (ArenaHandle S)) → Type 0
-Visits {S} source a begun = (first : Arena S) (most : ℕ) → Life source first (idle a) most →
-    (events : List Event) (s : Session (AllocationTracker (ArenaHandle S))) → Run (tracked (handle source)) begun events s →
-    Life source first (visited (s .inner .inner)) (largestNeed most events)
+-- A life that has come to the idle arena goes on with every run from the session, whose allocator is the arena's handle or has it inside.
+abbrev pub Visits : {S A : Type 0} → Ghosts S → allocators.Ghosts A → (A → ArenaHandle S) → Arena S → Session A → Type 0
+Visits {S} {A} source allocator inside a begun = (first : Arena S) (most : ℕ) → Life source first (idle a) most →
+    (events : List Event) (s : Session A) → Run allocator begun events s → Life source first (visited (inside (s .inner))) (largestNeed most events)
 
--- a life that has come to the visited handle goes on with the idle arena
+-- one that has come to the visited handle goes on with the idle arena
 abbrev pub Leaves : {S : Type 0} → Ghosts S → ArenaHandle S → Arena S → Type 0
 Leaves {S} source h a = (first : Arena S) (most : ℕ) → Life source first (visited h) most → Life source first (idle a) most
+
+-- and one that has come to a handle that no session visited
+abbrev pub LeavesUnvisited : {S : Type 0} → Ghosts S → ArenaHandle S → Arena S → Type 0
+LeavesUnvisited {S} source h a = (first : Arena S) (most : ℕ) → Life source first (acquired h) most → Life source first (idle a) most
+
+-- one that has come to an idle arena goes on with another
+abbrev pub Rests : {S : Type 0} → Ghosts S → Arena S → Arena S → Type 0
+Rests {S} source a a′ = (first : Arena S) (most : ℕ) → Life source first (idle a) most → Life source first (idle a′) most

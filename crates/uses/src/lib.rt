@@ -1,7 +1,5 @@
 // The uses of an arena: sessions visit it one after the other, and its growth stays bounded through them all.
 ghost use mathlib.Core.Path.{_≡_};
-ghost use Prim.Native.Nat.{ℕ};
-ghost use mathlib.Core.List.{List};
 ghost use Rattle.std.specs.Results.{Cases};
 ghost use Rattle.allocator.specs.Stats.{unused};
 ghost use Rattle.arena.specs.Views.{memoryAt};
@@ -13,6 +11,9 @@ ghost use Rattle.session.specs.Statistics.{tracked, StatisticsLaw};
 ghost use Rattle.uses.specs.Handles.{handle};
 ghost use Rattle.uses.specs.Openings.{Opened, Unopened};
 ghost use Rattle.uses.specs.Lives.{ArenaLaw, Acquired, Released, Visits, Leaves};
+
+mod calls;
+
 use allocator::AllocationStats;
 use allocator::AllocationTracker;
 use allocator::Allocator;
@@ -36,6 +37,25 @@ pub fn open<S: BlockSource>(source: S, cap: usize) -> Result<Arena<S>, (ArenaFau
     }
 }
 
+// Begins a use of the arena: a session over its handle.
+pub fn enter<S: BlockSource>(arena: Arena<S>) -> Session<ArenaHandle<S>>
+    ensures acquired { λ r. ⌜ Acquired S·BlockSource arena (r .inner) ⌝ }
+    ensures fresh { λ r. ⌜ state (handle S·BlockSource) r ≡ fresh (memoryAt (S·BlockSource .state) (r .inner)) ⌝ }
+    ensures law { λ r. ⌜ SessionLaw (handle S·BlockSource) r ⌝ }
+    ensures growth { λ r. ⌜ GrowthLaw (handle S·BlockSource) r ⌝ }
+    ensures visits { λ r. ⌜ Visits S·BlockSource (handle S·BlockSource) (λ h. h) arena r ⌝ }
+{
+    Session::open(arena.acquire())
+}
+
+// Ends that use: the idle arena again.
+pub fn leave<S: BlockSource>(session: Session<ArenaHandle<S>>) -> Arena<S>
+    ensures released { λ a. ⌜ Released S·BlockSource (session .inner) a ⌝ }
+    ensures leaves { λ a. ⌜ Leaves S·BlockSource (session .inner) a ⌝ }
+{
+    session.finish().release()
+}
+
 // Begins a use of the arena: a session over a tracker of its handle.
 pub fn begin<S: BlockSource>(arena: Arena<S>) -> Session<AllocationTracker<ArenaHandle<S>>>
     ensures acquired { λ r. ⌜ Acquired S·BlockSource arena (r .inner .inner) ⌝ }
@@ -44,12 +64,12 @@ pub fn begin<S: BlockSource>(arena: Arena<S>) -> Session<AllocationTracker<Arena
     ensures law { λ r. ⌜ SessionLaw (tracked (handle S·BlockSource)) r ⌝ }
     ensures growth { λ r. ⌜ GrowthLaw (tracked (handle S·BlockSource)) r ⌝ }
     ensures statistics { λ r. ⌜ StatisticsLaw (handle S·BlockSource) r ⌝ }
-    ensures visits { λ r. ⌜ Visits S·BlockSource arena r ⌝ }
+    ensures visits { λ r. ⌜ Visits S·BlockSource (tracked (handle S·BlockSource)) (λ t. t .inner) arena r ⌝ }
 {
     Session::track(arena.acquire())
 }
 
-// Ends the use: its statistics, and the idle arena again.
+// Ends that use: its statistics, and the idle arena again.
 pub fn end<S: BlockSource>(
     session: Session<AllocationTracker<ArenaHandle<S>>>,
 ) -> (AllocationStats, Arena<S>)
