@@ -1,4 +1,4 @@
-mod Blocks
+pub mod Blocks
 mod Records
 mod Steps
 mod Owns

@@ -1,0 +1,2 @@
+pub mod Endian
+mod Elements

@@ -1,0 +1,5 @@
+mod Packings
+mod Stores
+mod Loads
+mod Lists
+mod Vectors
