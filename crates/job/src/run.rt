@@ -1,7 +1,7 @@
 // The run of a card's entries in a session over any allocator.
 ghost use mathlib.Core.Path.{_≡_};
 ghost use Rattle.std.specs.Of.Vec.{vec-items};
-ghost use Rattle.std.specs.Vec.{made};
+ghost use Rattle.std.specs.Vec.{made, refused};
 ghost use Rattle.session.specs.Calls.{push as pushes, popNewest};
 ghost use Rattle.job.specs.Reports.{callOf, Told, Reported};
 use crate::listing::Answer;
@@ -13,22 +13,23 @@ use session::Session;
 use std::alloc::AllocError;
 use std::alloc::Global;
 
-// A line for each entry, from its call in the session.
+// A line for each entry, from its call in the session. Where there is no memory for the lines, no call is made.
 pub fn run_entries<A: Allocator>(
     session: &mut Session<A>,
     heap: Global,
     entries: &[Entry],
 ) -> Result<Vec<Line>, AllocError>
-    ensures { λ r. ⌜ made r (λ lines. Reported A·Allocator (now (session .entry)) (now (entries .entry)) (vec-items lines) (now (session .exit))) ⌝ }
+    ensures reports { λ r. ⌜ made r (λ lines. Reported A·Allocator (now (session .entry)) (now (entries .entry)) (vec-items lines) (now (session .exit))) ⌝ }
+    ensures same { λ r. ⌜ refused r (λ _. now (session .exit) ≡ now (session .entry)) ⌝ }
 {
-    let mut lines = Vec::new(heap);
+    let mut lines = Vec::with_capacity(heap, entries.len())?;
     for (i, entry) in entries.iter().enumerate() {
         let answer = step(session, *entry);
-        lines.push(Line {
+        lines.push_reserved(Line {
             number: i + 1,
             letter: entry.letter,
             answer,
-        })?;
+        });
     }
     Ok(lines)
 }
