@@ -24,8 +24,8 @@ map-same : {X : Type 0} (f g : ℕ → X) (n : ℕ) → ((k : ℕ) → k < n →
 map-same f g n same =
     same-lists (map f (counting 0 n)) (map g (counting 0 n)) (length-map-counting f 0 n ∙ sym (length-map-counting g 0 n))
     (λ k d less.
-     let less′ : k < n = omega (arith, length-map-counting f 0 n) in
-     getD-map-counting f 0 n k k d less′ (omega arith) ∙ same k less′ ∙ sym (getD-map-counting g 0 n k k d less′ (omega arith)))
+    let less′ : k < n = omega (arith, length-map-counting f 0 n) in
+    getD-map-counting f 0 n k k d less′ (omega arith) ∙ same k less′ ∙ sym (getD-map-counting g 0 n k k d less′ (omega arith)))
 
 module _ {K : Type 0} (kind : kinds.Ghosts K) (exact : (x : K) → length (kind .packed x) ≡ kind .wide) (again : (x : K) → kind .unpacked (kind .packed x) ≡ x) where
   abbrev w : ℕ
@@ -41,11 +41,11 @@ module _ {K : Type 0} (kind : kinds.Ghosts K) (exact : (x : K) → length (kind 
   laid-element m′ start xs there q d less =
       let y = getD xs q d in
       let whole : kind .packed y ≡ bytesAt m′ (start + q * w) w =
-          fill-by-all (λ r. byteAt m′ (start + q * w + r)) (kind .packed y) w 0 (exact y)
-          (λ r short.
-           let inside : q * w + r < length xs * w = omega (arith, suc-mul q w, mul-le-mul-right w (suc-le q (length xs) less)) in
-           let place : start + (q * w + r) ≡ start + q * w + r = omega arith in
-           sym (joined-at (kind .packed) w exact xs q r d less short) ∙ sym (there (q * w + r) inside) ∙ ap (λ a. byteAt m′ a) place) in
+      fill-by-all (λ r. byteAt m′ (start + q * w + r)) (kind .packed y) w 0 (exact y)
+      (λ r short.
+      let inside : q * w + r < length xs * w = omega (arith, suc-mul q w, mul-le-mul-right w (suc-le q (length xs) less)) in
+      let place : start + (q * w + r) ≡ start + q * w + r = omega arith in
+      sym (joined-at (kind .packed) w exact xs q r d less short) ∙ sym (there (q * w + r) inside) ∙ ap (λ a. byteAt m′ a) place) in
       ap (kind .unpacked) (sym whole) ∙ again y
 
   module _ (m m′ : Memory) (at len : ℕ) where
@@ -64,19 +64,19 @@ module _ {K : Type 0} (kind : kinds.Ghosts K) (exact : (x : K) → length (kind 
         same-lists (map f′ (counting 0 (len + length xs))) (map f (counting 0 len) ++ xs)
         (length-map-counting f′ 0 (len + length xs) ∙ sym (length-append (map f (counting 0 len)) xs ∙ ap (λ n. n + length xs) lf))
         (λ k d less.
-         let less′ : k < len + length xs = omega (arith, length-map-counting f′ 0 (len + length xs)) in
-         getD-map-counting f′ 0 (len + length xs) k k d less′ (omega arith) ∙ elim (cases-lt k len) [
-           | inl before ↦
-               let short : k < length (map f (counting 0 len)) = omega (arith, lf) in
-               kept m m′ at k (λ to low high. below to (omega (arith, suc-mul k w, mul-le-mul-right w (suc-le k len before))))
-               ∙ sym (getD-append-left (map f (counting 0 len)) xs d k short ∙ getD-map-counting f 0 len k k d before (omega arith))
-           | inr past ↦
-               let q = k - len in
-               let is : k ≡ len + q = omega arith in
-               let place : at + k * w ≡ at + len * w + q * w = omega (arith, ap (λ n. n * w) is, add-mul len q w) in
-               ap (λ a. kind .unpacked (bytesAt m′ a w)) place ∙ laid-element m′ (at + len * w) xs there q d (omega arith)
-               ∙ sym (getD-append-right (map f (counting 0 len)) xs len k d lf past)
-         ])
+        let less′ : k < len + length xs = omega (arith, length-map-counting f′ 0 (len + length xs)) in
+        getD-map-counting f′ 0 (len + length xs) k k d less′ (omega arith) ∙ elim (cases-lt k len) [
+          | inl before ↦
+              let short : k < length (map f (counting 0 len)) = omega (arith, lf) in
+              kept m m′ at k (λ to low high. below to (omega (arith, suc-mul k w, mul-le-mul-right w (suc-le k len before))))
+              ∙ sym (getD-append-left (map f (counting 0 len)) xs d k short ∙ getD-map-counting f 0 len k k d before (omega arith))
+          | inr past ↦
+              let q = k - len in
+              let is : k ≡ len + q = omega arith in
+              let place : at + k * w ≡ at + len * w + q * w = omega (arith, ap (λ n. n * w) is, add-mul len q w) in
+              ap (λ a. kind .unpacked (bytesAt m′ a w)) place ∙ laid-element m′ (at + len * w) xs there q d (omega arith)
+              ∙ sym (getD-append-right (map f (counting 0 len)) xs len k d lf past)
+        ])
 
     module _ (i : ℕ) (elsewhere : (to : ℕ) → (to < at + i * w) ⊎ (at + i * w + 1 * w ≤ to) → byteAt m′ to ≡ byteAt m to) where
       pub others-kept : (k : ℕ) → k < len → (k ≡ i → ⊥) → elementAt kind m′ at k ≡ elementAt kind m at k
@@ -92,16 +92,16 @@ module _ {K : Type 0} (kind : kinds.Ghosts K) (exact : (x : K) → length (kind 
           let f = elementAt kind m at in
           let lf : length (map f (counting 0 len)) ≡ len = length-map-counting f 0 len in
           let at-i : f′ i ≡ x =
-              let place : at + i * w ≡ at + i * w + 0 * w = omega (arith, zero-mul w) in
-              ap (λ a. kind .unpacked (bytesAt m′ a w)) place ∙ laid-element m′ (at + i * w) (x ∷ []) there 0 x (omega arith) in
+          let place : at + i * w ≡ at + i * w + 0 * w = omega (arith, zero-mul w) in
+          ap (λ a. kind .unpacked (bytesAt m′ a w)) place ∙ laid-element m′ (at + i * w) (x ∷ []) there 0 x (omega arith) in
           same-lists (map f′ (counting 0 len)) (set (map f (counting 0 len)) i x)
           (length-map-counting f′ 0 len ∙ sym (length-set (map f (counting 0 len)) i x ∙ lf))
           (λ k d less.
-           let less′ : k < len = omega (arith, length-map-counting f′ 0 len) in
-           getD-map-counting f′ 0 len k k d less′ (omega arith) ∙ elim (cases-eq k i) [
-             | inl e ↦
-                 let short : i < length (map f (counting 0 len)) = omega (arith, lf) in
-                 ap f′ e ∙ at-i ∙ sym (ap (λ j. getD (set (map f (counting 0 len)) i x) j d) e ∙ getD-set-same (map f (counting 0 len)) i x d short)
-             | inr ne ↦
-                 others-kept k less′ ne ∙ sym (getD-set-other (map f (counting 0 len)) i k x d ne ∙ getD-map-counting f 0 len k k d less′ (omega arith))
-           ])
+          let less′ : k < len = omega (arith, length-map-counting f′ 0 len) in
+          getD-map-counting f′ 0 len k k d less′ (omega arith) ∙ elim (cases-eq k i) [
+            | inl e ↦
+                let short : i < length (map f (counting 0 len)) = omega (arith, lf) in
+                ap f′ e ∙ at-i ∙ sym (ap (λ j. getD (set (map f (counting 0 len)) i x) j d) e ∙ getD-set-same (map f (counting 0 len)) i x d short)
+            | inr ne ↦
+                others-kept k less′ ne ∙ sym (getD-set-other (map f (counting 0 len)) i k x d ne ∙ getD-map-counting f 0 len k k d less′ (omega arith))
+          ])

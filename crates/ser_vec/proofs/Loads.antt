@@ -54,8 +54,8 @@ module _ {A K : Type 0} (al : Ghosts A) (kind : kinds.Ghosts K) (s : Session A) 
     pub read-all : (buffer : List ℕ) → kind .wide ≤ length buffer → (x : K) → x ≡ kind .unpacked (take (kind .wide) buffer) → Read al kind s grant span offset (kind .wide) buffer → Loaded al s grant span offset kind x
     read-all buffer long x is read =
         let whole : take (kind .wide) buffer ≡ bs =
-            fill-by-all (λ k. byteAt (state al s .memory) (span .at + offset + k)) (take (kind .wide) buffer) (kind .wide) 0 (length-take-le (kind .wide) buffer long)
-            (λ k less. getD-take (kind .wide) buffer k 0 less ∙ read .same k less) in
+        fill-by-all (λ k. byteAt (state al s .memory) (span .at + offset + k)) (take (kind .wide) buffer) (kind .wide) 0 (length-take-le (kind .wide) buffer long)
+        (λ k less. getD-take (kind .wide) buffer k 0 less ∙ read .same k less) in
         record { value = is ∙ ap (kind .unpacked) whole; run = read .run }
 
     module _ (n : ℕ) (less : n < kind .wide) (buffer : List ℕ) (sofar : Read al kind s grant span offset n buffer) where
@@ -81,9 +81,11 @@ module _ {A K : Type 0} (al : Ghosts A) (kind : kinds.Ghosts K) (s : Session A) 
       pub read-cut : {fault : Fault} → Performs al s (load grant (offset + n)) (refused fault) s → (fault ≡ Allocator Address) × LoadedCut al s grant span offset kind
       read-cut {fault} performs =
           let inside : offset + n < span .size = omega (arith, room .inside) in
-          let why = load-refused span (room .regular .unique) (room .here) (room .granted) inside (performs (room .regular .sound) .step) in
-          (why, record {
-            n = n;
-            less = less;
-            run = subst (λ f. Run al s (event (load grant (offset + n)) (refused f) ∷ loadsOf grant offset bs n) s) why (visited (sofar .run) performs);
-          })
+          let why = load-refused span (room .regular .unique) (room .here) (room .granted) inside (performs (room .regular .sound) .step) in (
+            why,
+            record {
+              n = n;
+              less = less;
+              run = subst (λ f. Run al s (event (load grant (offset + n)) (refused f) ∷ loadsOf grant offset bs n) s) why (visited (sofar .run) performs);
+            },
+          )

@@ -33,9 +33,10 @@ taken-within m at lawful on = elim (cases-bool (within m at)) [
 store-done : {s : State} {grant offset v : ℕ} {s′ : State} (span : Span) → Unique (s .live) → Among span (s .live) → span .grant ≡ grant → Step s (store grant offset v) done s′ →
     (taken (s .memory) (span .at + offset) ≡ true) × (s′ ≡ newState (stored (s .memory) (span .at + offset) v) (s .live) (s .given))
 store-done {s = s} span unique here same (stores span′ offset v here′ less on) =
-    let is : span′ ≡ span = unique span′ span here′ here (sym same) in
-    (subst (λ (x : Span). taken (s .memory) (x .at + offset) ≡ true) is on,
-     ap (λ (x : Span). newState (stored (s .memory) (x .at + offset) v) (s .live) (s .given)) is)
+    let is : span′ ≡ span = unique span′ span here′ here (sym same) in (
+      subst (λ (x : Span). taken (s .memory) (x .at + offset) ≡ true) is on,
+      ap (λ (x : Span). newState (stored (s .memory) (x .at + offset) v) (s .live) (s .given)) is,
+    )
 
 -- and one that is refused inside the span
 store-refused : {s : State} {grant offset v : ℕ} {fault : Fault} {s′ : State} (span : Span) → Unique (s .live) → Among span (s .live) → span .grant ≡ grant → offset < span .size →
@@ -99,10 +100,12 @@ module _ {A : Type 0} (al : Ghosts A) (s : Session A) (grant : ℕ) (span : Span
         let inside : offset + n < span .size = omega (arith, room .inside) in
         let (why, same) = store-refused span (sofar .regular .unique) still (room .granted) inside (performs (sofar .regular .sound) .step) in
         let last : event (store grant (offset + n) value) (refused fault) ≡ event (store grant (offset + n) (getD bs n 0)) (refused (Allocator Address)) =
-            ap (λ v. event (store grant (offset + n) v) (refused fault)) is ∙ ap (λ f. event (store grant (offset + n) (getD bs n 0)) (refused f)) why in
-        (why, record {
-          n = n;
-          less = less;
-          run = subst (λ x. Run al s (x ∷ storesOf grant offset bs n) s₂) last (visited (sofar .run) performs);
-          laid = subst (λ (z : State). Laid (state al s) (span .at + offset) bs n z) (sym same) (sofar .laid);
-        })
+        ap (λ v. event (store grant (offset + n) v) (refused fault)) is ∙ ap (λ f. event (store grant (offset + n) (getD bs n 0)) (refused f)) why in (
+          why,
+          record {
+            n = n;
+            less = less;
+            run = subst (λ x. Run al s (x ∷ storesOf grant offset bs n) s₂) last (visited (sofar .run) performs);
+            laid = subst (λ (z : State). Laid (state al s) (span .at + offset) bs n z) (sym same) (sofar .laid);
+          },
+        )

@@ -147,8 +147,8 @@ module _ {A K : Type 0} (al : Ghosts A) (kind : kinds.Ghosts K) (v : Vector) (s 
         let f = elementAt kind (state al s .memory) (v .at) in
         let is-len : v .len ≡ v .len - 1 + 1 = omega arith in
         let split : map f (counting 0 (v .len)) ≡ map f (counting 0 (v .len - 1)) ++ x ∷ [] =
-            ap (λ n. map f (counting 0 n)) is-len ∙ map-counting-more f 0 (v .len - 1) (v .len - 1) (omega arith)
-            ∙ ap (λ y. map f (counting 0 (v .len - 1)) ++ y ∷ []) (sym (element-is (v .len - 1) x loaded)) in
+        ap (λ n. map f (counting 0 n)) is-len ∙ map-counting-more f 0 (v .len - 1) (v .len - 1) (omega arith)
+        ∙ ap (λ y. map f (counting 0 (v .len - 1)) ++ y ∷ []) (sym (element-is (v .len - 1) x loaded)) in
         record {
           events = loadsOf (numberOf (v .grant)) ((v .len - 1) * w) (bytesAt (state al s .memory) (v .at + (v .len - 1) * w) w) w;
           run = loads-here (v .len - 1) w (loaded .run);
@@ -282,7 +282,7 @@ module _ {A K : Type 0} (al : Ghosts A) (kind : kinds.Ghosts K) (cap : ℕ) (s s
       let did = performs-as (granted (g .number) at) performs in
       let spans = served-live (did (regular .sound) .step) in
       let held : Held (state al s′ .live) (g .number) at (cap * kind .wide) =
-          subst (λ l. Held l (g .number) at (cap * kind .wide)) (sym spans) (newSpan (g .number) at (cap * kind .wide) (kind .aligned), inl refl, refl, refl, refl) in
+      subst (λ l. Held l (g .number) at (cap * kind .wide)) (sym spans) (newSpan (g .number) at (cap * kind .wide) (kind .aligned), inl refl, refl, refl, refl) in
       record {
         events = event (push (cap * kind .wide) (kind .aligned)) (granted (g .number) at) ∷ [];
         run = visited opened did;

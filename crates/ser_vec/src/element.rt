@@ -46,7 +46,11 @@ pub(crate) fn write_all<K: Kind, A: Allocator>(
 }
 
 // Loads the bytes of an element and unpacks them.
-pub(crate) fn read<K: Kind, A: Allocator>(session: &Session<A>, grant: &Grant, offset: usize) -> Result<K, Fault>
+pub(crate) fn read<K: Kind, A: Allocator>(
+    session: &Session<A>,
+    grant: &Grant,
+    offset: usize,
+) -> Result<K, Fault>
     requires { ⌜ offset < 2 ^ 32 ⌝ }
     ensures { λ r. ⌜ ((span : Span) → Room A·Allocator (now (session .entry)) (now (grant .entry) .number) offset (K·Kind .wide) span → Reads A·Allocator K·Kind (now (session .entry)) (now (grant .entry) .number) span offset r) ⌝ }
 {

@@ -43,7 +43,10 @@ pub(crate) fn is_live<A: Allocator>(header: &Header, width: usize, session: &Ses
 
 impl<K: Kind> SerVec<K> {
     // Pushes a span for exactly so many elements. Without capacity it pushes nothing.
-    pub fn with_capacity<A: Allocator>(session: &mut Session<A>, cap: usize) -> Result<SerVec<K>, Fault>
+    pub fn with_capacity<A: Allocator>(
+        session: &mut Session<A>,
+        cap: usize,
+    ) -> Result<SerVec<K>, Fault>
         ensures { λ r. ⌜ Cases r (λ v. Opens A·Allocator K·Kind cap (now (session .entry)) (Ok (plain (v .header))) (now (session .exit))) (λ f. Opens A·Allocator K·Kind cap (now (session .entry)) (Err f) (now (session .exit))) ⌝ }
     {
         if cap == 0 {
@@ -94,7 +97,11 @@ impl<K: Kind> SerVec<K> {
     }
 
     // Refused unless so many more elements fit.
-    pub fn reserve<A: Allocator>(&self, session: &Session<A>, additional: usize) -> Result<(), Fault>
+    pub fn reserve<A: Allocator>(
+        &self,
+        session: &Session<A>,
+        additional: usize,
+    ) -> Result<(), Fault>
         ensures { λ r. ⌜ Acts A·Allocator (K·Kind .wide) (Reserving additional) (plain (now (self .entry) .header)) (now (session .entry)) r (plain (now (self .entry) .header)) (now (session .entry)) ⌝ }
     {
         if !is_live(&self.header, K::width(), session) {
@@ -106,7 +113,11 @@ impl<K: Kind> SerVec<K> {
         Ok(())
     }
 
-    pub fn reserve_exact<A: Allocator>(&self, session: &Session<A>, additional: usize) -> Result<(), Fault>
+    pub fn reserve_exact<A: Allocator>(
+        &self,
+        session: &Session<A>,
+        additional: usize,
+    ) -> Result<(), Fault>
         ensures { λ r. ⌜ Acts A·Allocator (K·Kind .wide) (Reserving additional) (plain (now (self .entry) .header)) (now (session .entry)) r (plain (now (self .entry) .header)) (now (session .entry)) ⌝ }
     {
         self.reserve(session, additional)
@@ -131,7 +142,11 @@ impl<K: Kind> SerVec<K> {
     }
 
     // Appends the elements in their order.
-    pub fn extend_from_slice<A: Allocator>(&mut self, session: &mut Session<A>, other: &[K]) -> Result<(), Fault>
+    pub fn extend_from_slice<A: Allocator>(
+        &mut self,
+        session: &mut Session<A>,
+        other: &[K],
+    ) -> Result<(), Fault>
         ensures { λ r. ⌜ Acts A·Allocator (K·Kind .wide) (Extending K·Kind (now (other .entry))) (plain (now (self .entry) .header)) (now (session .entry)) r (plain (now (self .exit) .header)) (now (session .exit)) ⌝ }
     {
         let width = K::width();
@@ -204,7 +219,12 @@ impl<K: Kind> SerVec<K> {
         }
     }
 
-    pub fn set<A: Allocator>(&self, session: &mut Session<A>, index: usize, value: K) -> Result<(), Fault>
+    pub fn set<A: Allocator>(
+        &self,
+        session: &mut Session<A>,
+        index: usize,
+        value: K,
+    ) -> Result<(), Fault>
         ensures { λ r. ⌜ Acts A·Allocator (K·Kind .wide) (Setting K·Kind index value) (plain (now (self .entry) .header)) (now (session .entry)) r (plain (now (self .entry) .header)) (now (session .exit)) ⌝ }
     {
         let width = K::width();
@@ -229,7 +249,12 @@ impl<K: Kind> SerVec<K> {
             return Err((self, Fault::Session(session::Fault::NotLive)));
         }
         let SerVec { header, kind } = self;
-        let Header { grant, at, cap, len } = header;
+        let Header {
+            grant,
+            at,
+            cap,
+            len,
+        } = header;
         match grant {
             None => Ok(()),
             Some(grant) => match session.pop(grant) {

@@ -21,11 +21,12 @@ pub loop-i-again : need.loop-i-again
 loop-i-again g c =
     let n = g .K·Kind·met .narrow in
     let less : c .loop-i .i < g .K·Kind .wide = omega arith in
-    let short : c .loop-i .i < length (c .loop-i .bytes) = omega arith in
-    (length-set (c .loop-i .bytes) (c .loop-i .i) (c .in-Continue-bytes .field-0) ∙ c .loop-i .inv .0,
-     λ span room.
-     read-more (g .A·Allocator) (g .K·Kind) (c .args .session .now) (c .args .grant .now .number) span (c .args .offset) room (c .loop-i .i) less (c .loop-i .bytes) (c .loop-i .inv .1 span room)
-     (c .in-Continue-bytes .field-0) short (c .in-Continue-bytes .ensures tt))
+    let short : c .loop-i .i < length (c .loop-i .bytes) = omega arith in (
+      length-set (c .loop-i .bytes) (c .loop-i .i) (c .in-Continue-bytes .field-0) ∙ c .loop-i .inv .0,
+      λ span room.
+          read-more (g .A·Allocator) (g .K·Kind) (c .args .session .now) (c .args .grant .now .number) span (c .args .offset) room (c .loop-i .i) less (c .loop-i .bytes) (c .loop-i .inv .1 span room)
+          (c .in-Continue-bytes .field-0) short (c .in-Continue-bytes .ensures tt),
+    )
 
 pub returns : need.returns
 returns g c span room =

@@ -10,4 +10,4 @@ abbrev pub Inv-loop-i : given.InvT-loop-i
 Inv-loop-i g l =
     (length (l .bytes) ≡ 64)
     × ((span : Span) → Room (g .A·Allocator) (l .session) (l .grant .number) (l .offset) (g .K·Kind .wide) span →
-      Read (g .A·Allocator) (g .K·Kind) (l .session) (l .grant .number) span (l .offset) (l .i) (l .bytes))
+    Read (g .A·Allocator) (g .K·Kind) (l .session) (l .grant .number) span (l .offset) (l .i) (l .bytes))

@@ -32,7 +32,7 @@ returns-in-Break-store g c =
     let e : c .width-width .result ≡ kind .wide = c .width-width .ensures in
     let less : i < length xs * kind .wide = subst (λ w. i < length xs * w) e (c .loop-i-test .taken) in
     let value : c .byte .result ≡ getD (packings kind xs) i 0 =
-        byte-value (kind .packed) (kind .wide) (g .K·Kind·met .exact) xs i some less (c .width-width .result) e (c .index-xs-i .result) (c .index-xs-i .is) (c .byte .result) (c .byte .ensures) in
+    byte-value (kind .packed) (kind .wide) (g .K·Kind·met .exact) xs i some less (c .width-width .result) e (c .index-xs-i .result) (c .index-xs-i .is) (c .byte .result) (c .byte .ensures) in
     rw (p .1, p .2) (λ span room.
     stored-cut (g .A·Allocator) (c .args .session .now) (c .args .grant .now .number) span (c .args .offset) (packings kind xs) (length xs * kind .wide) room i (c .byte .result) less value
     (c .loop-i .session) (c .store .last .self) (c .loop-i .inv span room) (c .in-Break-store .ensures tt))
@@ -46,7 +46,7 @@ loop-i-again g c span room =
     let e : c .width-width .result ≡ kind .wide = c .width-width .ensures in
     let less : i < length xs * kind .wide = subst (λ w. i < length xs * w) e (c .loop-i-test .taken) in
     let value : c .byte .result ≡ getD (packings kind xs) i 0 =
-        byte-value (kind .packed) (kind .wide) (g .K·Kind·met .exact) xs i some less (c .width-width .result) e (c .index-xs-i .result) (c .index-xs-i .is) (c .byte .result) (c .byte .ensures) in
+    byte-value (kind .packed) (kind .wide) (g .K·Kind·met .exact) xs i some less (c .width-width .result) e (c .index-xs-i .result) (c .index-xs-i .is) (c .byte .result) (c .byte .ensures) in
     stored-more (g .A·Allocator) (c .args .session .now) (c .args .grant .now .number) span (c .args .offset) (packings kind xs) (length xs * kind .wide) room i (c .byte .result) less value
     (c .loop-i .session) (c .store .last .self) (c .loop-i .inv span room) (c .in-Continue-store .ensures tt)
 
