@@ -8,4 +8,9 @@ mod Stack
 mod Invariant
 mod Traces
 pub mod Laws
+pub mod Served
 mod Statistics
+mod Lives
+pub mod Uses
+mod Visits
+mod Worked

@@ -12,18 +12,18 @@ use Rattle.allocator.specs.Stats.{unused, counted, discounted, minCapacity}
 use Rattle.allocator.specs.declared.Allocator.{Ghosts}
 use Rattle.allocator.specs.declared.AllocationStats.{AllocationStats}
 use Rattle.allocator.specs.declared.AllocationTracker.{AllocationTracker}
-use Rattle.allocator.specs.declared.fault.Fault.the-variants.{Size, Alignment, DoesNotFit, Address}
+use Rattle.allocator.specs.declared.fault.Fault.the-variants.{Address}
 use Rattle.session.specs.Ledger.{Span, newSpan, Ledger, adds, removes, notes, fed, bytes, need, empty, allButNewest}
-use Rattle.session.specs.Calls.{Call, push, pop, popNewest, load, store, Answer, refused, entry, Event, ledgerOf}
+use Rattle.session.specs.Calls.{Call, Answer, refused, entry, Event, ledgerOf}
 use Rattle.session.specs.Steps.{State, fresh, Step, refuses, serves, pops, popsNewest, loads, stores}
 use Rattle.session.specs.Sessions.{state, Own, OwnPopped}
 use Rattle.session.specs.Laws.{Each}
 use Rattle.session.specs.Runs.{Run, opened, visited}
 use Rattle.session.specs.Statistics.{tracked, Counts, StatisticsLaw}
-use Rattle.session.specs.declared.fault.Fault.{Fault}
-use Rattle.session.specs.declared.fault.Fault.the-variants.{NotNewest, NotLive, Full, Outside, Allocator}
+use Rattle.session.specs.declared.fault.Fault.the-variants.{Allocator}
 use Rattle.session.specs.declared.session.Session.{Session}
 use Rattle.session.proofs.Traces.{trace-law}
+use Rattle.session.proofs.Owns.{refusal-own}
 use Rattle.session.proofs.Laws.{run-sound, run-trace}
 
 abbrev Light : Span → Type 0
@@ -124,28 +124,15 @@ module _ (stats : AllocationStats) (ledger : Ledger) (live : List Span) (kept : 
     largest = kept .largest;
   }
 
-module _ {T : Type 0} (al : Ghosts T) (t t′ : AllocationTracker T) (spans : List Span) where
-  -- a refusal leaves the statistics as they were
-  refused-same : (call : Call) (fault : Fault) → (fault ≡ Allocator Address → ⊥) → Own (tracked al) t t′ spans call (refused fault) → t′ .stats ≡ t .stats
-  refused-same (push size align) (Allocator (DoesNotFit cause)) ne own = own .1
-  refused-same (push size align) (Allocator Size) ne own = ap (λ (x : AllocationTracker T). x .stats) own
-  refused-same (push size align) (Allocator Alignment) ne own = ap (λ (x : AllocationTracker T). x .stats) own
-  refused-same (push size align) (Allocator Address) ne own = absurd own
-  refused-same (push size align) Full ne own = ap (λ (x : AllocationTracker T). x .stats) own
-  refused-same (push size align) NotNewest ne own = absurd own
-  refused-same (push size align) NotLive ne own = absurd own
-  refused-same (push size align) Outside ne own = absurd own
-  refused-same (pop grant) fault ne own = ap (λ (x : AllocationTracker T). x .stats) (own ne)
-  refused-same popNewest fault ne own = ap (λ (x : AllocationTracker T). x .stats) (own ne)
-  refused-same (load grant offset) fault ne own = ap (λ (x : AllocationTracker T). x .stats) own
-  refused-same (store grant offset value) fault ne own = ap (λ (x : AllocationTracker T). x .stats) (own ne)
-
 module _ {T : Type 0} (al : Ghosts T) (ledger : Ledger) (t t′ : AllocationTracker T) where
   step-kept : {s s′ : State} {call : Call} {answer : Answer} → ((after : State) → Step s call (refused (Allocator Address)) after → ⊥) → Kept (t .stats) ledger (s .live) → Step s call answer s′ →
       Own (tracked al) t t′ (s .live) call answer → Kept (t′ .stats) (fed ledger (entry call answer)) (s′ .live)
   step-kept {s = s} {call = call} reached kept (refuses {fault = fault} why) own =
-      let ne : fault ≡ Allocator Address → ⊥ = λ e. reached s (subst (λ n. Step s call (refused n) s) e (refuses why)) in
-      subst (λ x. Kept x ledger (s .live)) (sym (refused-same al t t′ (s .live) call fault ne own)) kept
+      let same : t′ .stats ≡ t .stats = elim (refusal-own (tracked al) t t′ (s .live) s call fault reached why own) [
+        | inl is ↦ ap (λ (x : AllocationTracker T). x .stats) is
+        | inr (size, align, cause, rule) ↦ rule .1
+      ] in
+      subst (λ x. Kept x ledger (s .live)) (sym same) kept
   step-kept {s = s} reached kept (serves {size = size} {align = align} {at = at} sized aligning room rule) own =
       let span : Span = newSpan (suc (s .given)) at size align in
       let less : length (s .live) < 64 = elim (cases-lt (length (s .live)) 64) [ inl h ↦ h | inr h ↦ absurd (room (inl h)) ] in

@@ -23,7 +23,8 @@ use Rattle.allocator.proofs.Powers.{aligning-from-divides}
 use Rattle.session.specs.Ledger.{Span, newSpan, Among}
 use Rattle.session.specs.Calls.{Answer, push, pop, popNewest, load, store, done, byte, granted, refused}
 use Rattle.session.specs.Steps.{State, newState, TooMany, IsNewest, Step, refuses, serves, loads, stores, pops, popsNewest, badSize, badAlign, full, doesNotFit, popNotLive, popNotNewest, popUntaken, popNewestUntaken, nothingLive, loadNotLive, loadOutside, loadUntaken, storeNotLive, storeOutside, storeUntaken}
-use Rattle.session.specs.Records.{recorded, live, NotAmong}
+use Rattle.session.specs.Records.{recorded, live, NotAmong, Unaddressed}
+use Rattle.session.specs.declared.fault.Fault as session
 use Rattle.session.specs.declared.fault.Fault.the-variants.{NotNewest, NotLive, Full, Outside, Allocator}
 use Rattle.session.specs.declared.live.LiveSpan.{LiveSpan}
 use Rattle.session.proofs.Blocks.{high-untaken, popped-untaken}
@@ -67,9 +68,6 @@ module _ (m : Memory) (lawful : Lawful m) (a at : ℕ) (is : a ≡ min at (2 ^ 6
 
 -- loads and stores
 module _ (s : State) (span : Span) (here : Among span (s .live)) (grant : ℕ) (same : span .grant ≡ grant) (offset : ℕ) where
-  pub load-outside : span .size ≤ offset → Step s (load grant offset) (refused Outside) s
-  load-outside far = subst (λ g. Step s (load g offset) (refused Outside) s) same (refuses (loadOutside span here far))
-
   pub load-done : offset < span .size → (r : Result ℕ Fault) (b : ℕ) →
       Load (s .memory) (span .at + offset) r → r ≡ Ok b → Step s (load grant offset) (byte b) s
   load-done less r b answer ok =
@@ -82,9 +80,6 @@ module _ (s : State) (span : Span) (here : Among span (s .live)) (grant : ℕ) (
   load-faulted less f rule =
       subst (λ g. Step s (load g offset) (refused (Allocator f)) s) same
       (subst (λ x. Step s (load (span .grant) offset) (refused (Allocator x)) s) (sym (refused-address _ _ f rule)) (refuses (loadUntaken span here less (declined _ (Err f) _ f rule refl))))
-
-  pub store-outside : (v : ℕ) → span .size ≤ offset → Step s (store grant offset v) (refused Outside) s
-  store-outside v far = subst (λ g. Step s (store g offset v) (refused Outside) s) same (refuses (storeOutside span here far))
 
   module _ (v : ℕ) (less : offset < span .size) (r : Result (Unit {0}) Fault) (m′ : Memory)
       (rule : Store (s .memory) (span .at + offset) v r m′) where
@@ -107,11 +102,20 @@ module _ (s : State) (span : Span) (here : Among span (s .live)) (grant : ℕ) (
         let is : f ≡ Address = refused-address (taken (s .memory) (span .at + offset)) tt f (sym err ∙ rule .answer) in
         subst (λ x. Step s (store grant offset v) (refused (Allocator x)) (newState m′ (s .live) (s .given))) (sym is) (store-untaken f err)
 
-pub load-dead : (s : State) (grant offset : ℕ) → NotAmong (s .live) grant → Step s (load grant offset) (refused NotLive) s
-load-dead s grant offset none = refuses (loadNotLive (λ (span, here, e). none span here e))
+-- neither where there is no such byte
+pub load-unaddressed : (s : State) (grant offset : ℕ) (fault : session.Fault) → Unaddressed (s .live) grant offset fault → Step s (load grant offset) (refused fault) s
+load-unaddressed s grant offset NotLive none = refuses (loadNotLive (λ (span, here, e). none span here e))
+load-unaddressed s grant offset Outside (span, here, e, far) = subst (λ g. Step s (load g offset) (refused Outside) s) e (refuses (loadOutside span here far))
+load-unaddressed s grant offset NotNewest none = absurd none
+load-unaddressed s grant offset Full none = absurd none
+load-unaddressed s grant offset (Allocator fault) none = absurd none
 
-pub store-dead : (s : State) (grant offset v : ℕ) → NotAmong (s .live) grant → Step s (store grant offset v) (refused NotLive) s
-store-dead s grant offset v none = refuses (storeNotLive (λ (span, here, e). none span here e))
+pub store-unaddressed : (s : State) (grant offset v : ℕ) (fault : session.Fault) → Unaddressed (s .live) grant offset fault → Step s (store grant offset v) (refused fault) s
+store-unaddressed s grant offset v NotLive none = refuses (storeNotLive (λ (span, here, e). none span here e))
+store-unaddressed s grant offset v Outside (span, here, e, far) = subst (λ g. Step s (store g offset v) (refused Outside) s) e (refuses (storeOutside span here far))
+store-unaddressed s grant offset v NotNewest none = absurd none
+store-unaddressed s grant offset v Full none = absurd none
+store-unaddressed s grant offset v (Allocator fault) none = absurd none
 
 -- pops
 pub pop-dead : (s : State) (grant : ℕ) → NotAmong (s .live) grant → Step s (pop grant) (refused NotLive) s

@@ -1,17 +1,17 @@
 -- The laws of a session, as statements about its ledger and its state.
 use mathlib.Core.Path.{_≡_}
-use mathlib.Core.Bool.{cond}
+use mathlib.Core.Bool.{true, cond}
 use mathlib.Core.List.{List, [], _∷_}
 use mathlib.Core.Logic.{_⊎_}
 use Prim.Native.Nat.{ℕ, _+_, _-_, _≤_, _<_}
 use lib.ListN.{length}
 use lib.Dec.{ltb}
 use Rattle.allocator.specs.Layouts as layouts
-use Rattle.allocator.specs.Memory.{Memory}
+use Rattle.allocator.specs.Memory.{Memory, Lawful, within, byteAt}
 use Rattle.allocator.specs.declared.fault.Cause.{Cause}
 use Rattle.allocator.specs.declared.fault.Fault.the-variants.{DoesNotFit, Address}
 use Rattle.session.specs.Ledger.{Span, Ledger, Among, LastStored, needWith}
-use Rattle.session.specs.Calls.{Call, push, load, Answer, byte, refused}
+use Rattle.session.specs.Calls.{Call, push, load, store, Answer, done, byte, refused}
 use Rattle.session.specs.Steps.{State, Step}
 use Rattle.session.specs.declared.fault.Fault.the-variants.{Allocator}
 
@@ -41,6 +41,11 @@ AllSeparate (span ∷ rest) = Each (Separate span) rest × AllSeparate rest
 abbrev pub Answers : State → Call → Answer → Type 0
 Answers s call answer = Step s call answer s × ((other : Answer) (after : State) → Step s call other after → other ≡ answer)
 
+-- the call was an accepted store to that address
+abbrev pub StoresTo : List Span → Call → Answer → ℕ → Type 0
+StoresTo live call answer at =
+    (span : Span) × (offset : ℕ) × (value : ℕ) × Among span live × (call ≡ store (span .grant) offset value) × (answer ≡ done) × (at ≡ span .at + offset)
+
 -- Separation: how the live spans of the ledger stand in a session.
 pub record Separation (ledger : Ledger) (s : State) : Type 0 where
   -- they are the ones that the session has on record
@@ -55,6 +60,9 @@ pub record Separation (ledger : Ledger) (s : State) : Type 0 where
   -- a stored byte reads as last stored through its grant
   pub reads : (span : Span) → Among span (ledger .live) → (offset value : ℕ) → offset < span .size →
       LastStored (ledger .stores) (span .grant) offset value → Answers s (load (span .grant) offset) (byte value)
+  -- nothing else changes a byte, so one that was not stored since its push reads as the block had it
+  pub kept : (call : Call) (answer : Answer) (after : State) → Step s call answer after → Lawful (after .memory) →
+      (at : ℕ) → within (s .memory) at ≡ true → (StoresTo (ledger .live) call answer at → ⊥) → byteAt (after .memory) at ≡ byteAt (s .memory) at
 
 -- how much of the newest block is not taken
 abbrev pub untaken : Memory → ℕ

@@ -2,8 +2,11 @@ pub mod Faults
 pub mod Ledger
 pub mod Calls
 pub mod Steps
+pub mod Laws
 pub mod Records
 pub mod Sessions
-pub mod Laws
 pub mod Runs
 pub mod Statistics
+pub mod Growth
+pub mod Visits
+pub mod Figures

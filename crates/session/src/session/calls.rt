@@ -5,9 +5,10 @@ ghost use Rattle.std.specs.Options.{Cases};
 ghost use Rattle.std.specs.Results.{Cases as ByOk};
 ghost use Rattle.session.specs.Calls.{push, pop, popNewest, load, store};
 ghost use Rattle.session.specs.Steps.{fresh};
-ghost use Rattle.session.specs.Records.{live, NotAmong, Found, Held};
+ghost use Rattle.session.specs.Records.{live, NotAmong, Found, Held, Addressed, Unaddressed};
 ghost use Rattle.session.specs.Sessions.{state, pushed, popped, ended, loaded, Performs};
 ghost use Rattle.session.specs.Runs.{SessionLaw};
+ghost use Rattle.session.specs.Growth.{GrowthLaw};
 ghost use Rattle.session.specs.Statistics.{tracked, StatisticsLaw};
 ghost use Rattle.allocator.specs.Stats.{unused};
 use super::Session;
@@ -20,6 +21,10 @@ use allocator::Allocator;
 use allocator::Layout;
 use allocator::TrackerAllocates;
 
+// How many spans may be live at once: the length of the record.
+const MOST_LIVE: usize = 64;
+
+// Fills the record where no span is live.
 fn blank() -> LiveSpan {
     match Layout::from_size_align(1, 1) {
         Ok(layout) => LiveSpan {
@@ -45,10 +50,12 @@ fn find(spans: &[LiveSpan; 64], count: usize, grant: u32) -> Option<LiveSpan>
 }
 
 impl<A: Allocator> Session<A> {
+    // Every run of calls from here keeps the law.
     pub fn open(inner: A) -> Session<A>
         ensures inner { λ r. ⌜ r .inner ≡ inner ⌝ }
         ensures fresh { λ r. ⌜ state A·Allocator r ≡ fresh (A·Allocator .blocks inner) ⌝ }
         ensures law { λ r. ⌜ SessionLaw A·Allocator r ⌝ }
+        ensures growth { λ r. ⌜ GrowthLaw A·Allocator r ⌝ }
     {
         Session {
             inner,
@@ -58,6 +65,7 @@ impl<A: Allocator> Session<A> {
         }
     }
 
+    // Answers the allocator, with whatever is still live.
     pub fn finish(self) -> A
         ensures { λ r. ⌜ r ≡ self .inner ⌝ }
     {
@@ -75,7 +83,7 @@ impl<A: Allocator> Session<A> {
         ensures { λ r. ⌜ Performs A·Allocator (now (self .entry)) (push size align) (pushed r) (now (self .exit)) ⌝ }
     {
         let layout = Layout::from_size_align(size, align)?;
-        if self.count == 64 || self.given == 4294967295 {
+        if self.count == MOST_LIVE || self.given == 4294967295 {
             return Err(Fault::Full);
         }
         let at = self.inner.push_alloc(layout)?;
@@ -129,17 +137,20 @@ impl<A: Allocator> Session<A> {
     pub fn load(&self, grant: &Grant, offset: usize) -> Result<u8, Fault>
         ensures { λ r. ⌜ Performs A·Allocator (now (self .entry)) (load (now (grant .entry) .number) offset) (loaded r) (now (self .entry)) ⌝ }
     {
-        let Some(span) = find(&self.spans, self.count, grant.number) else {
-            return Err(Fault::NotLive);
-        };
-        if offset >= span.layout.size() {
-            return Err(Fault::Outside);
-        }
-        Ok(self.inner.load(span.at.saturating_add(offset))?)
+        let at = self.address(grant, offset)?;
+        Ok(self.inner.load(at)?)
     }
 
     pub fn store(&mut self, grant: &Grant, offset: usize, byte: u8) -> Result<(), Fault>
         ensures { λ r. ⌜ Performs A·Allocator (now (self .entry)) (store (now (grant .entry) .number) offset byte) (ended r) (now (self .exit)) ⌝ }
+    {
+        let at = self.address(grant, offset)?;
+        Ok(self.inner.store(at, byte)?)
+    }
+
+    // The address of a byte of the grant's span. The spans of a sound allocator end far below the last number, so the sum is not cut.
+    fn address(&self, grant: &Grant, offset: usize) -> Result<usize, Fault>
+        ensures { λ r. ⌜ ByOk r (λ at. Addressed (state A·Allocator (now (self .entry)) .live) (now (grant .entry) .number) offset at) (Unaddressed (state A·Allocator (now (self .entry)) .live) (now (grant .entry) .number) offset) ⌝ }
     {
         let Some(span) = find(&self.spans, self.count, grant.number) else {
             return Err(Fault::NotLive);
@@ -147,7 +158,7 @@ impl<A: Allocator> Session<A> {
         if offset >= span.layout.size() {
             return Err(Fault::Outside);
         }
-        Ok(self.inner.store(span.at.saturating_add(offset), byte)?)
+        Ok(span.at.saturating_add(offset))
     }
 
     // The address and the size of the grant's live span.
@@ -168,8 +179,10 @@ impl<T: Allocator> Session<AllocationTracker<T>> {
         ensures stats { λ r. ⌜ r .inner .stats ≡ unused ⌝ }
         ensures fresh { λ r. ⌜ state (tracked T·Allocator) r ≡ fresh (T·Allocator .blocks inner) ⌝ }
         ensures law { λ r. ⌜ SessionLaw (tracked T·Allocator) r ⌝ }
+        ensures growth { λ r. ⌜ GrowthLaw (tracked T·Allocator) r ⌝ }
         ensures statistics { λ r. ⌜ StatisticsLaw T·Allocator r ⌝ }
     {
-        Session::open(AllocationTracker::new(inner))
+        let tracker = AllocationTracker::new(inner);
+        Session::open(tracker)
     }
 }

@@ -7,7 +7,7 @@ use Rattle.std.proofs.shelf.Results.{err-from-errBy}
 use Rattle.session.proofs.Steps.{push-unlaid, push-full, push-served, push-unserved, push-refused}
 use Rattle.session.proofs.Owns.{own-served, own-unserved, own-unlaid}
 use Rattle.session.proofs.session.Session.push.Needs as need
-use Rattle.session.proofs.session.Session.push.Needs.{then-self-eq64·by·then-self-eq64, then-self-eq64·by·else-self-eq64·then-self}
+use Rattle.session.proofs.session.Session.push.Needs.{then-self-eq-MOST-LIVE·by·then-self-eq-MOST-LIVE, then-self-eq-MOST-LIVE·by·else-self-eq-MOST-LIVE·then-self}
 
 pub returns-in-Break-layout : need.returns-in-Break-layout
 returns-in-Break-layout g c =
@@ -20,14 +20,14 @@ returns-in-Break-layout g c =
       own = own-unlaid (g .A·Allocator) (c .args .self .now .inner) (c .args .size) (c .args .align) f bad;
     })
 
-pub returns-then-self-eq64 : need.returns-then-self-eq64
-returns-then-self-eq64 g c sound =
+pub returns-then-self-eq-MOST-LIVE : need.returns-then-self-eq-MOST-LIVE
+returns-then-self-eq-MOST-LIVE g c sound =
     let s = c .args .self .now in
     let (es, ea) = c .in-Continue-layout .ensures tt in
     let few : s .count ≤ length (s .spans) = omega arith in
-    let why : (s .count ≡ 64) ⊎ (4294967295 ≤ s .given) = elim (c .then-self-eq64 .came) [
-      | then-self-eq64·by·then-self-eq64 w ↦ inl (omega arith)
-      | then-self-eq64·by·else-self-eq64·then-self w ↦ inr (omega arith)
+    let why : (s .count ≡ 64) ⊎ (4294967295 ≤ s .given) = elim (c .then-self-eq-MOST-LIVE .came) [
+      | then-self-eq-MOST-LIVE·by·then-self-eq-MOST-LIVE w ↦ inl (omega arith)
+      | then-self-eq-MOST-LIVE·by·else-self-eq-MOST-LIVE·then-self w ↦ inr (omega arith)
     ] in
     record {
       step = push-full _ (s .spans) (s .count) (s .given) (c .in-Continue-layout .layout) (c .args .size) (c .args .align) es ea few why;
