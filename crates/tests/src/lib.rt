@@ -19,8 +19,6 @@ mod regions;
 mod sessions;
 #[cfg(test)]
 mod trackers;
-#[cfg(test)]
-mod vectors;
 
 // A buffer that is lent comes back with its bytes as they were where nothing was stored.
 pub fn borrowed(buffer: &mut [u8], layout: Layout)
