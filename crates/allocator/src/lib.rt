@@ -1,4 +1,6 @@
 // Scratch memory that is taken and given back last in, first out.
+#![tactic(auto)]
+
 ghost use Rattle.std.specs.Prelude.{◌≡◌, ℕ, Result};
 ghost use Rattle.allocator.specs.Memory.{Memory, Lawful};
 ghost use Rattle.allocator.specs.Answers.{Push, Pop, Load, Store};

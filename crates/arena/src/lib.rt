@@ -1,4 +1,6 @@
 // An arena allocator: blocks of a source, kept for use after use.
+#![tactic(auto)]
+
 mod arena;
 mod fault;
 mod power;

@@ -1,6 +1,8 @@
 //! Run cards. A card is three lines of ASCII text: the number of its entries, a space and the capacity; a letter
 //! for each entry; and the sizes of the entries, with one space between two. A number is decimal, at most
 //! 99,999,999, and has no leading zero.
+#![tactic(auto)]
+
 ghost use Rattle.std.specs.Prelude.{◌≡◌, ℕ, ◌<◌, ◌≤◌, List, [], ◌∷◌, ◌++◌, length, IfSome, vec_capacity, decimal, MatchOption, ◌≢◌};
 ghost use Rattle.cards.specs.Letters.{letter_of, align_of, refusal};
 ghost use Rattle.cards.specs.Read.{capacity_of, entries_of, Is, NoCard, Read, OneWriting, Lines};

@@ -1,4 +1,6 @@
 // Worked figures that users hold the allocators against, as theorems on their rules.
+#![tactic(auto)]
+
 ghost use Rattle.figures.specs.Figures.{Figures};
 
 use sub_allocator::buffer_figures;

@@ -1,4 +1,6 @@
 // The run of a card, and what it reports.
+#![tactic(auto)]
+
 mod listing;
 mod run;
 

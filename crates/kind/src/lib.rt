@@ -1,4 +1,6 @@
 // Kinds of elements: how wide each is, how it is aligned, and how it lies in bytes.
+#![tactic(auto)]
+
 ghost use Rattle.std.specs.Prelude.{◌≡◌, ℕ, ◌<◌, ◌≤◌, List, length, take, slice_index};
 ghost use Rattle.kind.specs.Bytes.{AllBytes, PowerOfTwo};
 

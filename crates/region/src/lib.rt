@@ -1,4 +1,6 @@
 // A block source that cuts its blocks from a buffer, whose first byte has the address 4,096.
+#![tactic(auto)]
+
 ghost use Rattle.std.specs.Prelude.{◌≡◌, ℕ, ◌+◌, ◌<◌, ◌≤◌, true, length, vec_items, nat_lt};
 ghost use Rattle.source.specs.Blocks.{untouched};
 ghost use Rattle.region.specs.Places.{chain, covers, begins, leaving, keeps, Lowest};

@@ -1,4 +1,6 @@
 // Replays a run card from standard input, and prints what each of its calls was answered.
+#![tactic(auto)]
+
 mod input;
 
 use cards::{Blank, Card};

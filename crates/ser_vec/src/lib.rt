@@ -1,4 +1,6 @@
 // Vectors of any kind of element in the memory of a session.
+#![tactic(auto)]
+
 mod element;
 mod fault;
 mod header;

@@ -1,4 +1,6 @@
 // Sessions: spans of any allocator, granted and given back last in, first out.
+#![tactic(auto)]
+
 mod fault;
 mod figures;
 mod grant;

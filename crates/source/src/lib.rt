@@ -1,4 +1,6 @@
 // Where an allocator that grows has its memory from.
+#![tactic(auto)]
+
 ghost use Rattle.std.specs.Prelude.{◌≡◌, ℕ, Result};
 ghost use Rattle.source.specs.Blocks.{Source, Lawful};
 ghost use Rattle.source.specs.Answers.{Take, Give, Load, Store};

@@ -1,4 +1,6 @@
 // An allocator that sub-allocates a fixed-size memory space.
+#![tactic(auto)]
+
 ghost use Rattle.std.specs.Prelude.{◌≡◌, ℕ, ◌<◌, min, [], IfSome};
 ghost use Rattle.allocator.specs.Memory.{Memory};
 ghost use Rattle.sub_allocator.specs.Buffers.{based, room, fixed, fixed-lawful, place_in, stored_in, Alone};

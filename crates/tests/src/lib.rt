@@ -1,4 +1,6 @@
 // Examples of the crates below, with expected values worked out from the rules.
+#![tactic(auto)]
+
 ghost use Rattle.std.specs.Prelude.{◌≡◌};
 
 use allocator::{Allocator, Layout};

@@ -1,4 +1,6 @@
 // The uses of an arena: sessions visit it one after the other, and its growth stays bounded through them all.
+#![tactic(auto)]
+
 ghost use Rattle.std.specs.Prelude.{◌≡◌, IfOk, MatchResult};
 ghost use Rattle.allocator.specs.Stats.{unused};
 ghost use Rattle.arena.specs.Views.{memory_at};

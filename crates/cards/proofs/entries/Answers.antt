@@ -3,7 +3,7 @@ use Rattle.std.proofs.Common.{◌≡◌, ◌+◌, [], ◌∷◌, length, drop, s
 use Rattle.std.proofs.lemmas.List.{nil_from_length}
 use Rattle.cards.proofs.Lines.{Sofar, Apart, upcoming, one_more, all_seen, no_other, apart_more, apart-last, apart_next}
 use Rattle.cards.proofs.entries.Goals as goal
-use Rattle.cards.proofs.entries.Goals.{then-i-letters+in-ok-rest, else-i-letters}
+use Rattle.cards.proofs.entries.Goals.{then-i-letters+in_ok-rest, else-i-letters}
 
 pub returns-in-err-entry : goal.returns-in-err-entry
 returns-in-err-entry c =
@@ -20,18 +20,18 @@ returns-in-err-rest c =
 
 pub loop-i-preserved : goal.loop-i-preserved
 loop-i-preserved c =
-    let begins = c.in-ok-entry.ensures.begins in
-    let apart : Apart (drop (c.loop-i.i + 1) c.args.letters.now) c.in-ok-entry.next.now c.if-i-letters.rest.now =
+    let begins = c.in_ok-entry.ensures.begins in
+    let apart : Apart (drop (c.loop-i.i + 1) c.args.letters.now) c.in_ok-entry.next.now c.if-i-letters.rest.now =
     elim c.if-i-letters.branch [
-      | then-i-letters+in-ok-rest w ↦
-          apart_more c.args.letters.now _ _ (c.loop-i.i + 1) w.if-i-letters.true (w.in-ok-rest.ensures ∙ ap (λ r. 32 ∷ r.now) (sym w.rest-is))
+      | then-i-letters+in_ok-rest w ↦
+          apart_more c.args.letters.now _ _ (c.loop-i.i + 1) w.if-i-letters.true (w.in_ok-rest.ensures ∙ ap (λ r. 32 ∷ r.now) (sym w.rest-is))
       | else-i-letters w ↦
-          subst (λ r. Apart (drop (c.loop-i.i + 1) c.args.letters.now) c.in-ok-entry.next.now r.now) (sym w.rest-is) (apart-last c.args.letters.now _ (c.loop-i.i + 1) w.if-i-letters.false)
+          subst (λ r. Apart (drop (c.loop-i.i + 1) c.args.letters.now) c.in_ok-entry.next.now r.now) (sym w.rest-is) (apart-last c.args.letters.now _ (c.loop-i.i + 1) w.if-i-letters.false)
     ] in (
       omega (arith, c.push-reserved.ensures.len),
       omega (arith, c.push-reserved.ensures.capacity),
       subst (λ es. Sofar c.args.letters.now c.args.sizes.now es (c.loop-i.i + 1) c.if-i-letters.rest.now) (sym c.push-reserved.ensures.items)
-          (one_more c.loop-i.invariant.2 c.in-ok-entry.entry c.in-ok-entry.next.now c.if-i-letters.rest.now (omega arith) begins.0 begins.1 begins.2 apart (λ e t ts. c.in-ok-entry.ensures.every e t ts)),
+          (one_more c.loop-i.invariant.2 c.in_ok-entry.entry c.in_ok-entry.next.now c.if-i-letters.rest.now (omega arith) begins.0 begins.1 begins.2 apart (λ e t ts. c.in_ok-entry.ensures.every e t ts)),
     )
 
 pub returns-in-err-end : goal.returns-in-err-end

@@ -25,5 +25,5 @@ returns-in-err-entries c =
 
 pub returns : goal.returns
 returns c =
-    let begins = c.in-ok-count.ensures.begins in
-    join c.args.text.now c.in-ok-count.rest.now _ _ _ c.in-ok-count.count c.in-ok-count.capacity _ (omega arith) (omega arith) begins.0 (omega arith) begins.1 c.split-at.ensures.front c.split-at.ensures.back c.in-ok-sizes.ensures c.in-ok-entries.ensures
+    let begins = c.in_ok-count.ensures.begins in
+    join c.args.text.now c.in_ok-count.rest.now _ _ _ c.in_ok-count.count c.in_ok-count.capacity _ (omega arith) (omega arith) begins.0 (omega arith) begins.1 c.split_at.ensures.front c.split_at.ensures.back c.in_ok-sizes.ensures c.in-ok-entries.ensures

@@ -9,7 +9,7 @@ pub returns-then-not-canonical : goal.returns-then-not-canonical
 returns-then-not-canonical c =
     record {
       begins = tt;
-      every = λ n t ts small low is. c.if-not-canonical.ensures (subst Canonical (sym c.split-at.ensures.front) (run-canonical _ _ c.digits.ensures n t ts small low is));
+      every = λ n t ts small low is. c.if-not-canonical.ensures (subst Canonical (sym c.split_at.ensures.front) (run-canonical _ _ c.digits.ensures n t ts small low is));
     }
 
 pub to-number-requires : goal.to-number-requires
@@ -19,9 +19,9 @@ to-number-requires c =
 pub returns : goal.returns
 returns c =
     let run = c.digits.ensures in
-    let is = c.to-number.ensures ∙ ap (digits_value 10) c.split-at.ensures.front in
-    let back = c.split-at.ensures.back in
-    let found = run-number _ _ run (subst Canonical c.split-at.ensures.front c.if-not-canonical.ensures) in
+    let is = c.to_number.ensures ∙ ap (digits_value 10) c.split_at.ensures.front in
+    let back = c.split_at.ensures.back in
+    let found = run-number _ _ run (subst Canonical c.split_at.ensures.front c.if-not-canonical.ensures) in
     record {
       begins = (omega (arith, found.0), found.1 ∙ (λ i. decimal (sym is i) ++ sym back i));
       every = λ n t ts small low here. (is ∙ run_value _ _ run n t ts small low here, back ∙ run-rest _ _ run n t ts small low here);

@@ -4,4 +4,4 @@ use Rattle.kind.proofs.Elements.{position-same, limited, four}
 use Rattle.kind.proofs.kinds.PositionKind.unpack.Goals as goal
 
 pub returns : goal.returns
-returns c = position-same (limited 32 _ _ c.from-le-bytes.type-inv (c.from-le-bytes.ensures ∙ four c.args.bytes.now 0 4 (lit≤ tt))) _ _
+returns c = position-same (limited 32 _ _ c.from_le_bytes.type-inv (c.from_le_bytes.ensures ∙ four c.args.bytes.now 0 4 (lit≤ tt))) _ _
