@@ -4,26 +4,26 @@ use Rattle.cards.specs.Written.{sizes}
 use Rattle.cards.proofs.Whole.{below, below-letters, below-sizes, below-long, join}
 use Rattle.cards.proofs.parse.Goals as goal
 
-pub returns-then-count-gt-MOST-ENTRIES : goal.returns-then-count-gt-MOST-ENTRIES
-returns-then-count-gt-MOST-ENTRIES c capacity es w is =
-    let told = c.in-ok-count.ensures.every (length es) capacity (below es) (omega (arith, w.count)) w.small (sym is) in
+pub returns-then-count-gt-MOST_ENTRIES : goal.returns-then-count-gt-MOST_ENTRIES
+returns-then-count-gt-MOST_ENTRIES c capacity es w is =
+    let told = c.in_ok-count.ensures.every (length es) capacity (below es) (omega (arith, w.count)) w.small (sym is) in
     let long = below-long es _ _ told.2 told.0 in
-    elim c.then-count-gt-MOST-ENTRIES.either [ inl many ↦ omega (arith, told.0, w.count) | inr past ↦ omega arith ]
+    elim c.then-count-gt-MOST_ENTRIES.either [ inl many ↦ omega (arith, told.0, w.count) | inr past ↦ omega arith ]
 
-pub returns-in-err-sizes : goal.returns-in-err-sizes
-returns-in-err-sizes c =
-    rw c.from-residual-in-err-sizes.ensures (λ capacity es w is.
-    let told = c.in-ok-count.ensures.every (length es) capacity (below es) (omega (arith, w.count)) w.small (sym is) in
-    c.in-err-sizes.ensures (sizes es ++ 10 ∷ []) (c.split-at.ensures.back ∙ below-sizes es _ _ told.2 told.0))
+pub returns-in_err-sizes : goal.returns-in_err-sizes
+returns-in_err-sizes c =
+    rw c.from_residual-in_err-sizes.ensures (λ capacity es w is.
+    let told = c.in_ok-count.ensures.every (length es) capacity (below es) (omega (arith, w.count)) w.small (sym is) in
+    c.in_err-sizes.ensures (sizes es ++ 10 ∷ []) (c.split_at.ensures.back ∙ below-sizes es _ _ told.2 told.0))
 
-pub returns-in-err-entries : goal.returns-in-err-entries
-returns-in-err-entries c =
-    rw c.from-residual-in-err-entries.ensures (λ capacity es w is.
-    let told = c.in-ok-count.ensures.every (length es) capacity (below es) (omega (arith, w.count)) w.small (sym is) in
-    let back = sym c.in-ok-sizes.ensures ∙ c.split-at.ensures.back ∙ below-sizes es _ _ told.2 told.0 in
-    c.in-err-entries.ensures es (record { letters-are = sym (c.split-at.ensures.front ∙ below-letters es _ _ told.2 told.0); sizes-are = cc (back); sound = w.sound }))
+pub returns-in_err-entries : goal.returns-in_err-entries
+returns-in_err-entries c =
+    rw c.from_residual-in_err-entries.ensures (λ capacity es w is.
+    let told = c.in_ok-count.ensures.every (length es) capacity (below es) (omega (arith, w.count)) w.small (sym is) in
+    let back = sym c.in_ok-sizes.ensures ∙ c.split_at.ensures.back ∙ below-sizes es _ _ told.2 told.0 in
+    c.in_err-entries.ensures es (record { letters-are = sym (c.split_at.ensures.front ∙ below-letters es _ _ told.2 told.0); sizes-are = cc (back); sound = w.sound }))
 
 pub returns : goal.returns
 returns c =
     let begins = c.in_ok-count.ensures.begins in
-    join c.args.text.now c.in_ok-count.rest.now _ _ _ c.in_ok-count.count c.in_ok-count.capacity _ (omega arith) (omega arith) begins.0 (omega arith) begins.1 c.split_at.ensures.front c.split_at.ensures.back c.in_ok-sizes.ensures c.in-ok-entries.ensures
+    join c.args.text.now c.in_ok-count.rest.now _ _ _ c.in_ok-count.count c.in_ok-count.capacity _ (omega arith) (omega arith) begins.0 (omega arith) begins.1 c.split_at.ensures.front c.split_at.ensures.back c.in_ok-sizes.ensures c.in_ok-entries.ensures

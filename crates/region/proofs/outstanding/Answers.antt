@@ -5,8 +5,8 @@ use Rattle.region.proofs.Searches.{high-each, covered}
 use Rattle.region.proofs.outstanding.Goals as goal
 use Rattle.region.proofs.outstanding.Goals.{then-slot-at+then-at-slot, else-slot-at, else-slot-at-via-then-slot-at+else-at-slot, else-slot-at-via-else-slot-at}
 
-pub overflow-add-slot : goal.overflow-add-slot
-overflow-add-slot c =
+pub overflow_add-slot : goal.overflow_add-slot
+overflow_add-slot c =
     let high = high-each c.args.len c.args.slots.now c.args.count c.loop-i.i (omega arith) c.requires.apart in
     search rules
 

@@ -2,8 +2,8 @@ use Rattle.std.proofs.Common.{refl}
 use Rattle.std.proofs.lemmas.Result.{err_from_is_err_and}
 use Rattle.allocator.proofs.AllocationTrackerAllocator.push_alloc.Goals as goal
 
-pub returns-in-err-at : goal.returns-in-err-at
-returns-in-err-at g c =
-    let p = err_from_is_err_and c.from-residual.result c.from-residual.ensures.1 in
-    let inner = c.in-err-at.ensures in
+pub returns-in_err-at : goal.returns-in_err-at
+returns-in_err-at g c =
+    let p = err_from_is_err_and c.from_residual.result c.from_residual.ensures.1 in
+    let inner = c.in_err-at.ensures in
     rw (p.1, p.2) (record { kept = inner.kept; own = λ sound. (inner.own sound, refl); rule = inner.rule; serves = inner.serves })

@@ -12,9 +12,9 @@ returns-then-not-canonical c =
       every = λ n t ts small low is. c.if-not-canonical.ensures (subst Canonical (sym c.split_at.ensures.front) (run-canonical _ _ c.digits.ensures n t ts small low is));
     }
 
-pub to-number-requires : goal.to-number-requires
-to-number-requires c =
-    record { few = c.if-not-canonical.ensures.few; all = subst AllDigits (sym c.split-at.ensures.front) (run-digits _ _ c.digits.ensures) }
+pub to_number-requires : goal.to_number-requires
+to_number-requires c =
+    record { few = c.if-not-canonical.ensures.few; all = subst AllDigits (sym c.split_at.ensures.front) (run-digits _ _ c.digits.ensures) }
 
 pub returns : goal.returns
 returns c =

@@ -5,11 +5,11 @@ use Rattle.std.specs.Str.Parse.{digits_value}
 use Rattle.cards.proofs.Decimals.{value-step, value-small}
 use Rattle.cards.proofs.scan.to_number.Goals as goal
 
-pub overflow-mul-n : goal.overflow-mul-n
-overflow-mul-n c = omega (arith, value-small c.args.digits.now c.loop-digit.digit-index c.requires.all (omega arith) c.requires.few)
+pub overflow_mul-n : goal.overflow_mul-n
+overflow_mul-n c = omega (arith, value-small c.args.digits.now c.loop-digit.digit-index c.requires.all (omega arith) c.requires.few)
 
-pub overflow-add-n : goal.overflow-add-n
-overflow-add-n c =
+pub overflow_add-n : goal.overflow_add-n
+overflow_add-n c =
     omega (arith, value-small c.args.digits.now c.loop-digit.digit-index c.requires.all (omega arith) c.requires.few, c.requires.all c.loop-digit.digit-index (omega arith))
 
 pub loop-digit-preserved : goal.loop-digit-preserved

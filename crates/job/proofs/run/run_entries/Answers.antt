@@ -10,7 +10,7 @@ use Rattle.job.proofs.run.run_entries.Goals as goal
 
 pub loop-i-init : goal.loop-i-init
 loop-i-init g c =
-    let made = c.in-ok-lines.ensures in (
+    let made = c.in_ok-lines.ensures in (
       subst (λ ls. Reported g.A.Allocator c.args.session.now [] ls c.args.session.now) (sym made.items)
           (record { events = []; listed = none; run = opened }),
       made.len,
@@ -25,9 +25,9 @@ loop-i-preserved g c =
     let line : Line = record { number = i + 1; letter = (get_or entries i d).letter; answer = c.step-answer.result } in
     let more = reported-more g.A.Allocator c.args.session.now c.loop-i.session c.step-answer.new.session entries (vec_items c.loop-i.lines) i d line
     c.loop-i-test.true c.loop-i.invariant.0 c.step-answer.ensures refl refl in (
-      subst (λ ls. Reported g.A.Allocator c.args.session.now (take (i + 1) entries) ls c.step-answer.new.session) (sym c.push-reserved.ensures.items) more,
-      omega (arith, c.push-reserved.ensures.len, c.loop-i.invariant.1),
-      omega (arith, c.push-reserved.ensures.capacity, c.loop-i.invariant.2),
+      subst (λ ls. Reported g.A.Allocator c.args.session.now (take (i + 1) entries) ls c.step-answer.new.session) (sym c.push_reserved.ensures.items) more,
+      omega (arith, c.push_reserved.ensures.len, c.loop-i.invariant.1),
+      omega (arith, c.push_reserved.ensures.capacity, c.loop-i.invariant.2),
     )
 
 pub returns : goal.returns

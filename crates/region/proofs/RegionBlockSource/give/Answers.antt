@@ -6,8 +6,8 @@ use Rattle.region.proofs.Removals.{keeps-leaving}
 use Rattle.region.proofs.Calls.{given, missed}
 use Rattle.region.proofs.RegionBlockSource.give.Goals as goal
 
-pub invariant-of-self : goal.invariant-of-self
-invariant-of-self c =
+pub invariant_of-self : goal.invariant_of-self
+invariant_of-self c =
     let r = c.args.self.now in
     let e = c.remove-stay.ensures in
     let few = r.few in (

@@ -13,19 +13,19 @@ returns-then-self-eq32 c =
       rule = λ u. refuses (vec_items r.bytes) r.slots r.count r.requests r.last r.outcome r.apart c.args.size (omega arith) (omega arith);
     }
 
-pub returns-in-default : goal.returns-in-default
-returns-in-default c =
+pub returns-in_default : goal.returns-in_default
+returns-in_default c =
     let r = c.args.self.now in
     let len = c.len-len.ensures in
-    let none = rw len at c.in-default.ensures in
+    let none = rw len at c.in_default.ensures in
     record {
       kept = λ u. u;
       own = λ u. (chooses_none (vec_items r.bytes) r.slots r.count r.requests r.last r.outcome r.apart c.args.size none, refl);
       rule = λ u. refuses (vec_items r.bytes) r.slots r.count r.requests r.last r.outcome r.apart c.args.size (omega arith) (omega arith);
     }
 
-pub invariant-of-self-2 : goal.invariant-of-self-2
-invariant-of-self-2 c =
+pub invariant_of-self-2 : goal.invariant_of-self-2
+invariant_of-self-2 c =
     let r = c.args.self.now in
     let whole : length c.args.self.now.slots ≡ 32 = search rules in
     let few = r.few in

@@ -15,12 +15,12 @@ bounds-xs-i g c =
     let some : 0 < c.width-width.result = omega (arith, g.met.K.Kind.narrow.0) in
     below_length c.args.xs.now c.loop-i.i c.width-width.result some c.loop-i-test.true
 
-pub offset-bounds-xs-i : goal.offset-bounds-xs-i
-offset-bounds-xs-i g c = omega (arith, bounds-xs-i g c)
+pub offset_bounds-xs-i : goal.offset_bounds-xs-i
+offset_bounds-xs-i g c = omega (arith, bounds-xs-i g c)
 
-pub returns-in-err-store : goal.returns-in-err-store
-returns-in-err-store g c =
-    let p = err_from_is_err_and c.from-residual.result c.from-residual.ensures.1 in
+pub returns-in_err-store : goal.returns-in_err-store
+returns-in_err-store g c =
+    let p = err_from_is_err_and c.from_residual.result c.from_residual.ensures.1 in
     let xs = c.args.xs.now in
     let i = c.loop-i.i in
     let kind = g.K.Kind in
@@ -31,7 +31,7 @@ returns-in-err-store g c =
     byte-value kind.packed kind.wide g.met.K.Kind.exact xs i some less c.width-width.result e c.index-xs-i.result c.index-xs-i.is c.byte.result c.byte.ensures in
     rw (p.1, p.2) (λ span room.
     stored_cut g.A.Allocator c.args.session.now c.args.grant.now.number span c.args.offset (packings kind xs) (length xs * kind.wide) room i c.byte.result less value
-    c.loop-i.session c.store.new.self (c.loop-i.invariant span room) c.in-err-store.ensures)
+    c.loop-i.session c.store.new.self (c.loop-i.invariant span room) c.in_err-store.ensures)
 
 pub loop-i-preserved : goal.loop-i-preserved
 loop-i-preserved g c span room =
@@ -44,7 +44,7 @@ loop-i-preserved g c span room =
     let value : c.byte.result ≡ get_or (packings kind xs) i 0 =
     byte-value kind.packed kind.wide g.met.K.Kind.exact xs i some less c.width-width.result e c.index-xs-i.result c.index-xs-i.is c.byte.result c.byte.ensures in
     stored_more g.A.Allocator c.args.session.now c.args.grant.now.number span c.args.offset (packings kind xs) (length xs * kind.wide) room i c.byte.result less value
-    c.loop-i.session c.store.new.self (c.loop-i.invariant span room) c.in-ok-store.ensures
+    c.loop-i.session c.store.new.self (c.loop-i.invariant span room) c.in_ok-store.ensures
 
 pub returns : goal.returns
 returns g c span room =

@@ -4,10 +4,10 @@ use Rattle.sub_allocator.proofs.Fixed.{pop-found, pop-lost}
 use Rattle.allocator.proofs.Laws.{pop-undoes}
 use Rattle.sub_allocator.proofs.SubAllocatorAllocator.pop_alloc.Goals as goal
 
-pub returns-in-default : goal.returns-in-default
-returns-in-default c =
+pub returns-in_default : goal.returns-in_default
+returns-in_default c =
     let s = c.args.self.now in
-    let pop = pop-lost s.base s.used s.bytes.now c.args.at c.in-default.ensures.value in
+    let pop = pop-lost s.base s.used s.bytes.now c.args.at c.in_default.ensures.value in
     record { kept = λ u. u; own = λ u. (refl, refl); rule = λ u. pop; undoes = λ u. pop-undoes c.args.at _ _ _ (fixed-lawful s.base s.used s.bytes.now) pop }
 
 pub returns : goal.returns

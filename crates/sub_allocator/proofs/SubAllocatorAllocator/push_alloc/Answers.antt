@@ -9,12 +9,12 @@ returns-then-wanted-room c =
     let s = c.args.self.now in
     let l = c.args.layout in
     let mark = c.mark-mark.result in
-    let p = c.align-offset-pad.result in
+    let p = c.align_offset-pad.result in
     let wanted = p + c.size.result in
     let over : room s.bytes.now - mark < wanted = omega arith in
     let push =
     unfit s.base s.used s.bytes.now l.size l.align mark (c.base.result + mark) p wanted c.mark-mark.ensures
-    (ap (λ n. n + mark) c.base.ensures.value) c.align-offset-pad.ensures.value (ap (λ n. p + n) c.size.ensures.value) over in
+    (ap (λ n. n + mark) c.base.ensures.value) c.align_offset-pad.ensures.value (ap (λ n. p + n) c.size.ensures.value) over in
     record { kept = λ u. u; own = λ u. (refl, refl, refl); rule = λ u. push; serves = λ u. refl }
 
 pub returns : goal.returns
@@ -23,13 +23,13 @@ returns c =
     let l = c.args.layout in
     let mark = c.mark-mark.result in
     let top = c.base.result + mark in
-    let p = c.align-offset-pad.result in
+    let p = c.align_offset-pad.result in
     let wanted = p + c.size.result in
     let top-is = ap (λ n. n + mark) c.base.ensures.value in
     let wanted-is = ap (λ n. p + n) c.size.ensures.value in
     let under : wanted ≤ room s.bytes.now - mark = omega arith in
-    let room-is = fit s.base s.used s.bytes.now l.size l.align mark top p wanted c.mark-mark.ensures top-is c.align-offset-pad.ensures.value wanted-is under in
-    let push = served s.base s.used s.bytes.now l.size l.align mark top p wanted c.mark-mark.ensures top-is c.align-offset-pad.ensures.value wanted-is under in
+    let room-is = fit s.base s.used s.bytes.now l.size l.align mark top p wanted c.mark-mark.ensures top-is c.align_offset-pad.ensures.value wanted-is under in
+    let push = served s.base s.used s.bytes.now l.size l.align mark top p wanted c.mark-mark.ensures top-is c.align_offset-pad.ensures.value wanted-is under in
     record {
       kept = λ u. u;
       own = λ u. (room-is, refl, refl);

@@ -2,10 +2,10 @@ use Rattle.std.proofs.Common.{refl}
 use Rattle.sub_allocator.proofs.Fixed.{store_found, store-lost, stored_is, unstored-is}
 use Rattle.sub_allocator.proofs.SubAllocatorAllocator.store.Goals as goal
 
-pub returns-in-default : goal.returns-in-default
-returns-in-default c =
+pub returns-in_default : goal.returns-in_default
+returns-in_default c =
     let s = c.args.self.now in
-    let none = c.in-default.ensures.value in
+    let none = c.in_default.ensures.value in
     record {
       kept = λ u. u;
       own = λ u. (unstored-is s.base s.used s.bytes.now c.args.at none c.args.byte, refl);

@@ -8,13 +8,13 @@ use Rattle.arena.proofs.Table.{least-is}
 use Rattle.arena.proofs.Steps.{dries, fresh, some_of, below-48, opens-asks, opening-some, opening-high, opening-doubles, opening-refused, opening-granted}
 use Rattle.arena.proofs.arena.Arena.with_capacity.Goals as goal
 
-pub push-next-requires : goal.push-next-requires
-push-next-requires g c =
+pub push_next-requires : goal.push_next-requires
+push_next-requires g c =
     let s = g.S.BlockSource.state c.args.self.now.source in
     let ps = blocks_of c.args.self.now.ring in
-    let empty = c.in-default.ensures in
+    let empty = c.in_default.ensures in
     let small = c.if-cap-gt16777216.false in
-    let least = c.in-Some-least-power.ensures in
+    let least = c.in-Some-least_power.ensures in
     record {
       some = opening-some s s ps _ _ 0 empty small least;
       small = opening-high s s ps _ _ 0 empty small least;
@@ -22,19 +22,19 @@ push-next-requires g c =
       doubles = opening-doubles s s ps _ _ 0 empty small least;
     }
 
-pub returns-in-err-block : goal.returns-in-err-block
-returns-in-err-block g c =
-    let p = err_from_is_err_and c.from-residual.result c.from-residual.ensures.1 in
+pub returns-in_err-block : goal.returns-in_err-block
+returns-in_err-block g c =
+    let p = err_from_is_err_and c.from_residual.result c.from_residual.ensures.1 in
     let h = c.args.self.now in
     let s = g.S.BlockSource.state h.source in
     let s' = g.S.BlockSource.state c.take.new.self in
     let ps = blocks_of h.ring in
-    let empty = c.in-default.ensures in
+    let empty = c.in_default.ensures in
     let small = c.if-cap-gt16777216.false in
-    let least = c.in-Some-least-power.ensures in
+    let least = c.in-Some-least_power.ensures in
     let some = some_of _ (opening-some s s ps _ _ 0 empty small least) in
     let high = opening-high s s ps _ _ 0 empty small least in
-    let asked = c.in-err-block.ensures in
+    let asked = c.in_err-block.ensures in
     rw (p.1, p.2)
     (record {
       kept = λ k.
@@ -55,14 +55,14 @@ returns g c =
     let s = g.S.BlockSource.state h.source in
     let s' = g.S.BlockSource.state c.take.new.self in
     let ps = blocks_of h.ring in
-    let ps' = blocks_of c.push-next.new.self in
-    let empty = c.in-default.ensures in
+    let ps' = blocks_of c.push_next.new.self in
+    let empty = c.in_default.ensures in
     let small = c.if-cap-gt16777216.false in
-    let least = c.in-Some-least-power.ensures in
+    let least = c.in-Some-least_power.ensures in
     let some = some_of _ (opening-some s s ps _ _ 0 empty small least) in
     let high = opening-high s s ps _ _ 0 empty small least in
-    let asked = c.in-ok-block.ensures in
-    let linked = c.push-next.ensures in
+    let asked = c.in_ok-block.ensures in
+    let linked = c.push_next.ensures in
     record {
       kept = λ k. record { source = asked.kept k.source; kept = (fresh s s' _ some high ps ps' _ linked k.kept h.ring.rises (asked.rule k.source)).kept };
       opens = λ k. opening-granted s s' ps _ _ h.growths empty small least ps' _ (fresh s s' _ some high ps ps' _ linked k.kept h.ring.rises (asked.rule k.source));

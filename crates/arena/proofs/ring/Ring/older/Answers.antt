@@ -16,14 +16,14 @@ loop-i-preserved c bs =
       | else-r-at w ↦ elim w.else-r-at.branch [ else-r-at-via-then-r-at+else-at-r w' ↦ grind (arith, nat_tests) | else-r-at-via-else-r-at w' ↦ grind (arith, nat_tests) ]
     ])
 
-pub overflow-add-r : goal.overflow-add-r
-overflow-add-r c = let low = (rise-at c.args.self.now.records c.args.self.now.len c.args.self.now.rises c.loop-i.i (omega arith)).low in search rules
+pub overflow_add-r : goal.overflow_add-r
+overflow_add-r c = let low = (rise-at c.args.self.now.records c.args.self.now.len c.args.self.now.rises c.loop-i.i (omega arith)).low in search rules
 
-pub overflow-sub-r : goal.overflow-sub-r
-overflow-sub-r c = (rise-at c.args.self.now.records c.args.self.now.len c.args.self.now.rises c.loop-i.i (omega arith)).some
+pub overflow_sub-r : goal.overflow_sub-r
+overflow_sub-r c = (rise-at c.args.self.now.records c.args.self.now.len c.args.self.now.rises c.loop-i.i (omega arith)).some
 
-pub overflow-add-r-then-r-at-2 : goal.overflow-add-r-then-r-at-2
-overflow-add-r-then-r-at-2 c =
+pub overflow_add-r-then-r-at-2 : goal.overflow_add-r-then-r-at-2
+overflow_add-r-then-r-at-2 c =
     let d = rise-at c.args.self.now.records c.args.self.now.len c.args.self.now.rises c.loop-i.i (omega arith) in
     let low = d.low in
     let small = d.small in

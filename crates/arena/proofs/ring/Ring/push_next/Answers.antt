@@ -9,14 +9,14 @@ bounds-self-n c =
     let r = c.args.self.now in
     roomy r.records r.len c.args.size r.rises c.requires.doubles c.requires.small
 
-pub invariant-of-self : goal.invariant-of-self
-invariant-of-self c =
+pub invariant_of-self : goal.invariant_of-self
+invariant_of-self c =
     let r = c.args.self.now in
     let whole : length c.args.self.now.records ≡ 23 = search rules in
     let room : c.args.self.now.len < 23 = roomy r.records r.len c.args.size r.rises c.requires.doubles c.requires.small in
     let inside : c.args.self.now.len < length c.args.self.now.records = omega arith in
     let new = risen (record { base = c.args.address; size = c.args.size }) (chain r.records r.len) c.requires.some c.requires.small c.requires.low c.requires.doubles r.rises in
-    rw c.saturating-sub-last.ensures (
+    rw c.saturating_sub-last.ensures (
       omega arith,
       (
         linked r.records r.len c.args.address c.args.size inside r.linked,
@@ -30,4 +30,4 @@ returns c =
     let whole : length c.args.self.now.records ≡ 23 = search rules in
     let room : c.args.self.now.len < 23 = roomy r.records r.len c.args.size r.rises c.requires.doubles c.requires.small in
     let inside : c.args.self.now.len < length c.args.self.now.records = omega arith in
-    rw c.saturating-sub-last.ensures (chains r.records r.len c.args.address c.args.size inside)
+    rw c.saturating_sub-last.ensures (chains r.records r.len c.args.address c.args.size inside)

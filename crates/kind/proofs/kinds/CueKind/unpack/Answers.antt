@@ -8,6 +8,6 @@ returns c =
     let bs = c.args.bytes.now in
     cue-same
     (limited 64 _ _ c.from_le_bytes.type-inv (c.from_le_bytes.ensures ∙ eight bs 16 (lit≤ tt)))
-    (limited 32 _ _ c.from-le-bytes-2.type_inv (c.from-le-bytes-2.ensures ∙ four bs 8 16 (lit≤ tt)))
-    (limited 32 _ _ c.from-le-bytes-3.type-inv (c.from-le-bytes-3.ensures ∙ four bs 12 16 (lit≤ tt)))
+    (limited 32 _ _ c.from_le_bytes-2.type_inv (c.from_le_bytes-2.ensures ∙ four bs 8 16 (lit≤ tt)))
+    (limited 32 _ _ c.from_le_bytes-3.type-inv (c.from_le_bytes-3.ensures ∙ four bs 12 16 (lit≤ tt)))
     _ _ _ _ _ _

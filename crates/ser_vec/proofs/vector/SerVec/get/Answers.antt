@@ -5,11 +5,11 @@ use Rattle.ser_vec.specs.Vectors.{plain, Lives, absent}
 use Rattle.ser_vec.proofs.Vectors.{dead, alone, lives-as, getting-by, getting-cut-by, offset-low}
 use Rattle.ser_vec.proofs.vector.SerVec.get.Goals as goal
 
-pub returns-then-not-is-live : goal.returns-then-not-is-live
-returns-then-not-is-live g c = dead g.A.Allocator g.K.Kind.wide _ (plain c.args.self.now.header) c.args.session.now c.width-width.result c.width-width.ensures c.is-live.result c.is-live.ensures.no c.if-not-is-live.true
+pub returns-then-not-is_live : goal.returns-then-not-is_live
+returns-then-not-is_live g c = dead g.A.Allocator g.K.Kind.wide _ (plain c.args.self.now.header) c.args.session.now c.width-width.result c.width-width.ensures c.is_live.result c.is_live.ensures.no c.if-not-is_live.true
 
 pub returns-then-index-self : goal.returns-then-index-self
-returns-then-index-self g c = alone g.A.Allocator g.K.Kind.wide _ (plain c.args.self.now.header) c.args.session.now c.width-width.result c.width-width.ensures c.is-live.result c.is-live.ensures.yes c.if-not-is-live.false (absent (omega arith))
+returns-then-index-self g c = alone g.A.Allocator g.K.Kind.wide _ (plain c.args.self.now.header) c.args.session.now c.width-width.result c.width-width.ensures c.is_live.result c.is_live.ensures.yes c.if-not-is_live.false (absent (omega arith))
 
 pub read-requires : goal.read-requires
 read-requires g c =
@@ -17,13 +17,13 @@ read-requires g c =
     let n = g.met.K.Kind.narrow in
     offset-low c.args.index c.width-width.result (omega (arith, h.fits, h.small)) (omega (arith, n.1, c.width-width.ensures))
 
-pub returns-in-err-read : goal.returns-in-err-read
-returns-in-err-read g c =
-    let p = err_from_is_err_and c.from-residual.result c.from-residual.ensures.1 in
+pub returns-in_err-read : goal.returns-in_err-read
+returns-in_err-read g c =
+    let p = err_from_is_err_and c.from_residual.result c.from_residual.ensures.1 in
     let less : c.args.index < c.args.self.now.header.len = omega arith in
-    rw (p.1, p.2) (getting-cut-by g.A.Allocator g.K.Kind (plain c.args.self.now.header) c.args.session.now c.in-Some.grant c.in-Some.is (lives-as g.A.Allocator g.K.Kind.wide (plain c.args.self.now.header) c.args.session.now c.width-width.result c.width-width.ensures c.is-live.result c.is-live.ensures.yes c.if-not-is-live.false) c.args.index less c.width-width.result c.width-width.ensures c.args.self.now.header.fits c.in-err-read.ensures)
+    rw (p.1, p.2) (getting-cut-by g.A.Allocator g.K.Kind (plain c.args.self.now.header) c.args.session.now c.in-Some.grant c.in-Some.is (lives-as g.A.Allocator g.K.Kind.wide (plain c.args.self.now.header) c.args.session.now c.width-width.result c.width-width.ensures c.is_live.result c.is_live.ensures.yes c.if-not-is_live.false) c.args.index less c.width-width.result c.width-width.ensures c.args.self.now.header.fits c.in_err-read.ensures)
 
-pub returns-in-ok-read : goal.returns-in-ok-read
-returns-in-ok-read g c =
+pub returns-in_ok-read : goal.returns-in_ok-read
+returns-in_ok-read g c =
     let less : c.args.index < c.args.self.now.header.len = omega arith in
-    getting-by g.A.Allocator g.K.Kind (plain c.args.self.now.header) c.args.session.now c.in-Some.grant c.in-Some.is (lives-as g.A.Allocator g.K.Kind.wide (plain c.args.self.now.header) c.args.session.now c.width-width.result c.width-width.ensures c.is-live.result c.is-live.ensures.yes c.if-not-is-live.false) c.args.index less c.width-width.result c.width-width.ensures c.args.self.now.header.fits c.in-ok-read.field-0 c.in-ok-read.ensures
+    getting-by g.A.Allocator g.K.Kind (plain c.args.self.now.header) c.args.session.now c.in-Some.grant c.in-Some.is (lives-as g.A.Allocator g.K.Kind.wide (plain c.args.self.now.header) c.args.session.now c.width-width.result c.width-width.ensures c.is_live.result c.is_live.ensures.yes c.if-not-is_live.false) c.args.index less c.width-width.result c.width-width.ensures c.args.self.now.header.fits c.in_ok-read.field-0 c.in_ok-read.ensures

@@ -5,11 +5,11 @@ use Rattle.ser_vec.specs.Vectors.{plain, Lives, none}
 use Rattle.ser_vec.proofs.Vectors.{dead, alone, lives-as, popping-by, popping-cut-by, offset-low}
 use Rattle.ser_vec.proofs.vector.SerVec.pop.Goals as goal
 
-pub returns-then-not-is-live : goal.returns-then-not-is-live
-returns-then-not-is-live g c = dead g.A.Allocator g.K.Kind.wide _ (plain c.args.self.now.header) c.args.session.now c.width-width.result c.width-width.ensures c.is-live.result c.is-live.ensures.no c.if-not-is-live.true
+pub returns-then-not-is_live : goal.returns-then-not-is_live
+returns-then-not-is_live g c = dead g.A.Allocator g.K.Kind.wide _ (plain c.args.self.now.header) c.args.session.now c.width-width.result c.width-width.ensures c.is_live.result c.is_live.ensures.no c.if-not-is_live.true
 
 pub returns-then-self-eq0 : goal.returns-then-self-eq0
-returns-then-self-eq0 g c = alone g.A.Allocator g.K.Kind.wide _ (plain c.args.self.now.header) c.args.session.now c.width-width.result c.width-width.ensures c.is-live.result c.is-live.ensures.yes c.if-not-is-live.false (none (omega arith))
+returns-then-self-eq0 g c = alone g.A.Allocator g.K.Kind.wide _ (plain c.args.self.now.header) c.args.session.now c.width-width.result c.width-width.ensures c.is_live.result c.is_live.ensures.yes c.if-not-is_live.false (none (omega arith))
 
 pub read-requires : goal.read-requires
 read-requires g c =
@@ -17,13 +17,13 @@ read-requires g c =
     let n = g.met.K.Kind.narrow in
     offset-low (c.args.self.now.header.len - 1) c.width-width.result (omega (arith, h.fits, h.small)) (omega (arith, n.1, c.width-width.ensures))
 
-pub returns-in-err-x : goal.returns-in-err-x
-returns-in-err-x g c =
-    let p = err_from_is_err_and c.from-residual.result c.from-residual.ensures.1 in
+pub returns-in_err-x : goal.returns-in_err-x
+returns-in_err-x g c =
+    let p = err_from_is_err_and c.from_residual.result c.from_residual.ensures.1 in
     let some : 0 < c.args.self.now.header.len = omega arith in
-    rw (p.1, p.2) (popping-cut-by g.A.Allocator g.K.Kind (plain c.args.self.now.header) c.args.session.now c.in-Some.grant c.in-Some.is (lives-as g.A.Allocator g.K.Kind.wide (plain c.args.self.now.header) c.args.session.now c.width-width.result c.width-width.ensures c.is-live.result c.is-live.ensures.yes c.if-not-is-live.false) some c.width-width.result c.width-width.ensures c.args.self.now.header.fits c.in-err-x.ensures)
+    rw (p.1, p.2) (popping-cut-by g.A.Allocator g.K.Kind (plain c.args.self.now.header) c.args.session.now c.in-Some.grant c.in-Some.is (lives-as g.A.Allocator g.K.Kind.wide (plain c.args.self.now.header) c.args.session.now c.width-width.result c.width-width.ensures c.is_live.result c.is_live.ensures.yes c.if-not-is_live.false) some c.width-width.result c.width-width.ensures c.args.self.now.header.fits c.in_err-x.ensures)
 
 pub returns : goal.returns
 returns g c =
     let some : 0 < c.args.self.now.header.len = omega arith in
-    popping-by g.A.Allocator g.K.Kind (plain c.args.self.now.header) c.args.session.now c.in-Some.grant c.in-Some.is (lives-as g.A.Allocator g.K.Kind.wide (plain c.args.self.now.header) c.args.session.now c.width-width.result c.width-width.ensures c.is-live.result c.is-live.ensures.yes c.if-not-is-live.false) some c.width-width.result c.width-width.ensures c.args.self.now.header.fits c.in-ok-x.x c.in-ok-x.ensures
+    popping-by g.A.Allocator g.K.Kind (plain c.args.self.now.header) c.args.session.now c.in-Some.grant c.in-Some.is (lives-as g.A.Allocator g.K.Kind.wide (plain c.args.self.now.header) c.args.session.now c.width-width.result c.width-width.ensures c.is_live.result c.is_live.ensures.yes c.if-not-is_live.false) some c.width-width.result c.width-width.ensures c.args.self.now.header.fits c.in_ok-x.x c.in_ok-x.ensures

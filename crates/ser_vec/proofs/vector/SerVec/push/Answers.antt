@@ -5,11 +5,11 @@ use Rattle.ser_vec.specs.Vectors.{plain, Lives, full}
 use Rattle.ser_vec.proofs.Vectors.{dead, alone, lives-as, extending-by, extending-cut-by, offset-low}
 use Rattle.ser_vec.proofs.vector.SerVec.push.Goals as goal
 
-pub returns-then-not-is-live : goal.returns-then-not-is-live
-returns-then-not-is-live g c = dead g.A.Allocator g.K.Kind.wide _ (plain c.args.self.now.header) c.args.session.now c.width-width.result c.width-width.ensures c.is-live.result c.is-live.ensures.no c.if-not-is-live.true
+pub returns-then-not-is_live : goal.returns-then-not-is_live
+returns-then-not-is_live g c = dead g.A.Allocator g.K.Kind.wide _ (plain c.args.self.now.header) c.args.session.now c.width-width.result c.width-width.ensures c.is_live.result c.is_live.ensures.no c.if-not-is_live.true
 
 pub returns-then-self : goal.returns-then-self
-returns-then-self g c = alone g.A.Allocator g.K.Kind.wide _ (plain c.args.self.now.header) c.args.session.now c.width-width.result c.width-width.ensures c.is-live.result c.is-live.ensures.yes c.if-not-is-live.false (full (omega arith))
+returns-then-self g c = alone g.A.Allocator g.K.Kind.wide _ (plain c.args.self.now.header) c.args.session.now c.width-width.result c.width-width.ensures c.is_live.result c.is_live.ensures.yes c.if-not-is_live.false (full (omega arith))
 
 pub write-requires : goal.write-requires
 write-requires g c =
@@ -17,15 +17,15 @@ write-requires g c =
     let n = g.met.K.Kind.narrow in
     offset-low c.args.self.now.header.len c.width-width.result (omega (arith, h.fits, h.small)) (omega (arith, n.1, c.width-width.ensures))
 
-pub returns-in-err-write : goal.returns-in-err-write
-returns-in-err-write g c =
-    let p = err_from_is_err_and c.from-residual.result c.from-residual.ensures.1 in
+pub returns-in_err-write : goal.returns-in_err-write
+returns-in_err-write g c =
+    let p = err_from_is_err_and c.from_residual.result c.from_residual.ensures.1 in
     let h = c.args.self.now.header in
     let room : 1 ≤ h.cap - h.len = omega (arith, h.fits) in
-    rw (p.1, p.2) (extending-cut-by g.A.Allocator g.K.Kind (plain c.args.self.now.header) c.args.session.now c.in-Some.grant c.in-Some.is (lives-as g.A.Allocator g.K.Kind.wide (plain c.args.self.now.header) c.args.session.now c.width-width.result c.width-width.ensures c.is-live.result c.is-live.ensures.yes c.if-not-is-live.false) g.met.K.Kind.exact g.met.K.Kind.again c.write.new.session (c.args.value ∷ []) room c.width-width.result c.width-width.ensures c.args.self.now.header.fits c.in-err-write.ensures)
+    rw (p.1, p.2) (extending-cut-by g.A.Allocator g.K.Kind (plain c.args.self.now.header) c.args.session.now c.in-Some.grant c.in-Some.is (lives-as g.A.Allocator g.K.Kind.wide (plain c.args.self.now.header) c.args.session.now c.width-width.result c.width-width.ensures c.is_live.result c.is_live.ensures.yes c.if-not-is_live.false) g.met.K.Kind.exact g.met.K.Kind.again c.write.new.session (c.args.value ∷ []) room c.width-width.result c.width-width.ensures c.args.self.now.header.fits c.in_err-write.ensures)
 
 pub returns : goal.returns
 returns g c =
     let h = c.args.self.now.header in
     let room : 1 ≤ h.cap - h.len = omega (arith, h.fits) in
-    extending-by g.A.Allocator g.K.Kind (plain c.args.self.now.header) c.args.session.now c.in-Some.grant c.in-Some.is (lives-as g.A.Allocator g.K.Kind.wide (plain c.args.self.now.header) c.args.session.now c.width-width.result c.width-width.ensures c.is-live.result c.is-live.ensures.yes c.if-not-is-live.false) g.met.K.Kind.exact g.met.K.Kind.again c.write.new.session (c.args.value ∷ []) room c.width-width.result c.width-width.ensures c.args.self.now.header.fits c.in-ok-write.ensures
+    extending-by g.A.Allocator g.K.Kind (plain c.args.self.now.header) c.args.session.now c.in-Some.grant c.in-Some.is (lives-as g.A.Allocator g.K.Kind.wide (plain c.args.self.now.header) c.args.session.now c.width-width.result c.width-width.ensures c.is_live.result c.is_live.ensures.yes c.if-not-is_live.false) g.met.K.Kind.exact g.met.K.Kind.again c.write.new.session (c.args.value ∷ []) room c.width-width.result c.width-width.ensures c.args.self.now.header.fits c.in_ok-write.ensures

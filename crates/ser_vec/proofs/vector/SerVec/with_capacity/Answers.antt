@@ -15,18 +15,18 @@ returns-then-cap-width g c regular =
     let large : 16777216 < c.args.cap * c.width-width.result = (div-lt_iff_lt-mul some).0 c.if-cap-width.true in
     record { events = []; run = opened; rule = too_large (subst (λ n. 16777216 < c.args.cap * n) c.width-width.ensures large) }
 
-pub returns-in-err-grant : goal.returns-in-err-grant
-returns-in-err-grant g c =
-    let p = err_from_is_err_and c.from-residual.result c.from-residual.ensures.1 in
+pub returns-in_err-grant : goal.returns-in_err-grant
+returns-in_err-grant g c =
+    let p = err_from_is_err_and c.from_residual.result c.from_residual.ensures.1 in
     let some : 0 < c.width-width.result = omega (arith, g.met.K.Kind.narrow.0, c.width-width.ensures) in
     let less : c.args.cap * c.width-width.result ≤ 16777216 = (le-div_iff_mul-le some).0 c.if-cap-width.false in
     rw (p.1, p.2)
     (opening-refused g.A.Allocator g.K.Kind c.args.cap c.args.session.now c.push.new.self c.width-width.result c.align.result c.width-width.ensures c.align.ensures
-    (omega arith) less c.in-err-grant.field-0.0 c.in-err-grant.ensures)
+    (omega arith) less c.in_err-grant.field-0.0 c.in_err-grant.ensures)
 
 pub returns : goal.returns
 returns g c =
     let some : 0 < c.width-width.result = omega (arith, g.met.K.Kind.narrow.0, c.width-width.ensures) in
     let less : c.args.cap * c.width-width.result ≤ 16777216 = (le-div_iff_mul-le some).0 c.if-cap-width.false in
     opening g.A.Allocator g.K.Kind c.args.cap c.args.session.now c.push.new.self c.width-width.result c.align.result c.width-width.ensures c.align.ensures
-    (omega arith) less c.in-ok-grant.grant c.in-ok-grant.at c.in-ok-grant.ensures
+    (omega arith) less c.in_ok-grant.grant c.in_ok-grant.at c.in_ok-grant.ensures

@@ -7,4 +7,4 @@ returns-then-offset-size g c = let (here, same) = c.in-Some.ensures in (_, here,
 pub returns : goal.returns
 returns g c =
     let (here, same) = c.in-Some.ensures in
-    record { span = _; among = here; named = same; inside = omega arith; is = c.saturating-add.ensures }
+    record { span = _; among = here; named = same; inside = omega arith; is = c.saturating_add.ensures }

@@ -3,32 +3,32 @@ use Rattle.std.proofs.lemmas.Result.{err_from_is_err_and}
 use Rattle.session.proofs.Steps.{load_at, load-unaddressed, load-done, load-faulted}
 use Rattle.session.proofs.session.Session.load.Goals as goal
 
-pub returns-in-err-at : goal.returns-in-err-at
-returns-in-err-at g c =
-    let p = err_from_is_err_and c.from-residual.result c.from-residual.ensures.1 in
+pub returns-in_err-at : goal.returns-in_err-at
+returns-in_err-at g c =
+    let p = err_from_is_err_and c.from_residual.result c.from_residual.ensures.1 in
     rw (p.1, p.2) (λ sound. record {
-      step = load-unaddressed _ c.args.grant.now.number c.args.offset c.in-err-at.field-0.0 c.in-err-at.ensures;
+      step = load-unaddressed _ c.args.grant.now.number c.args.offset c.in_err-at.field-0.0 c.in_err-at.ensures;
       sound = sound;
       own = refl;
     })
 
-pub returns-in-err-load : goal.returns-in-err-load
-returns-in-err-load g c =
-    let p = err_from_is_err_and c.from-residual-in-err-load.result c.from-residual-in-err-load.ensures.1 in
-    let b = c.in-ok-at.ensures in
+pub returns-in_err-load : goal.returns-in_err-load
+returns-in_err-load g c =
+    let p = err_from_is_err_and c.from_residual-in_err-load.result c.from_residual-in_err-load.ensures.1 in
+    let b = c.in_ok-at.ensures in
     rw (p.1, p.2) (λ sound. record {
-      step = load-faulted _ b.span b.among c.args.grant.now.number b.named c.args.offset b.inside c.in-err-load.field-0.0
-          (load_at _ (g.A.Allocator.lawful c.args.self.now.inner sound) c.in-ok-at.at _ b.is _ (c.in-err-load.ensures sound));
+      step = load-faulted _ b.span b.among c.args.grant.now.number b.named c.args.offset b.inside c.in_err-load.field-0.0
+          (load_at _ (g.A.Allocator.lawful c.args.self.now.inner sound) c.in_ok-at.at _ b.is _ (c.in_err-load.ensures sound));
       sound = sound;
       own = refl;
     })
 
 pub returns : goal.returns
 returns g c sound =
-    let b = c.in-ok-at.ensures in
+    let b = c.in_ok-at.ensures in
     record {
-      step = load-done _ b.span b.among c.args.grant.now.number b.named c.args.offset b.inside _ c.in-ok-load.field-0
-          (load_at _ (g.A.Allocator.lawful c.args.self.now.inner sound) c.in-ok-at.at _ b.is _ (c.in-ok-load.ensures sound)) refl;
+      step = load-done _ b.span b.among c.args.grant.now.number b.named c.args.offset b.inside _ c.in_ok-load.field-0
+          (load_at _ (g.A.Allocator.lawful c.args.self.now.inner sound) c.in_ok-at.at _ b.is _ (c.in_ok-load.ensures sound)) refl;
       sound = sound;
       own = refl;
     }

@@ -10,19 +10,19 @@ pub returns-then-self-eq0 : goal.returns-then-self-eq0
 returns-then-self-eq0 g c sound =
     let none : c.args.self.now.count ≡ 0 = omega arith in record { step = refuses (nothing_live (live-none _ _ none)); sound = sound; own = λ ne. refl }
 
-pub returns-in-err-pop-alloc : goal.returns-in-err-pop-alloc
-returns-in-err-pop-alloc g c =
-    let p = err_from_is_err_and c.from-residual.result c.from-residual.ensures.1 in
+pub returns-in_err-pop_alloc : goal.returns-in_err-pop_alloc
+returns-in_err-pop_alloc g c =
+    let p = err_from_is_err_and c.from_residual.result c.from_residual.ensures.1 in
     let s = c.args.self.now in
     let some : 0 < s.count = omega arith in
     let few : s.count ≤ length s.spans = omega arith in
-    let f = c.in-err-pop-alloc.field-0.0 in
+    let f = c.in_err-pop_alloc.field-0.0 in
     rw (p.1, p.2) (λ sound.
-    let rule = c.in-err-pop-alloc.ensures.rule sound in
+    let rule = c.in_err-pop_alloc.ensures.rule sound in
     record {
       step = pop-faulted _ _ s.spans s.count _ c.index-self-self.result _ some few rule f refl;
-      sound = c.in-err-pop-alloc.ensures.kept sound;
-      own = own-untaken s.inner c.pop-alloc.new.self f (refused-address _ tt f rule.answer);
+      sound = c.in_err-pop_alloc.ensures.kept sound;
+      own = own-untaken s.inner c.pop_alloc.new.self f (refused-address _ tt f rule.answer);
     })
 
 pub returns : goal.returns
@@ -30,9 +30,9 @@ returns g c sound =
     let s = c.args.self.now in
     let some : 0 < s.count = omega arith in
     let few : s.count ≤ length s.spans = omega arith in
-    let inner = c.in-ok-pop-alloc.ensures in
+    let inner = c.in_ok-pop_alloc.ensures in
     record {
       step = pop-done _ _ s.spans s.count _ c.index-self-self.result _ some few (inner.rule sound) _ refl;
       sound = inner.kept sound;
-      own = own-popped g.A.Allocator s.inner c.pop-alloc.new.self s.spans s.count c.index-self-self.result some few (inner.own sound);
+      own = own-popped g.A.Allocator s.inner c.pop_alloc.new.self s.spans s.count c.index-self-self.result some few (inner.own sound);
     }

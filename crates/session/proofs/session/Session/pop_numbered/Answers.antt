@@ -6,8 +6,8 @@ use Rattle.session.proofs.Steps.{pop-dead, pop-older, pop-newest}
 use Rattle.session.proofs.session.Session.pop_numbered.Goals as goal
 use Rattle.session.proofs.session.Session.pop_numbered.Goals.{then-self-eq0-via-then-self-eq0, then-self-eq0-via-else-self-eq0+then-self-grant}
 
-pub returns-in-default : goal.returns-in-default
-returns-in-default g c sound = record { step = pop-dead _ c.args.grant c.in-default.ensures; sound = sound; own = λ ne. refl }
+pub returns-in_default : goal.returns-in_default
+returns-in_default g c sound = record { step = pop-dead _ c.args.grant c.in_default.ensures; sound = sound; own = λ ne. refl }
 
 pub returns-then-self-eq0 : goal.returns-then-self-eq0
 returns-then-self-eq0 g c sound =

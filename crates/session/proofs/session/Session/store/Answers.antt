@@ -4,33 +4,33 @@ use Rattle.session.proofs.Steps.{accepted, refused-address, store_at, taken_at, 
 use Rattle.session.proofs.Owns.{own-untaken}
 use Rattle.session.proofs.session.Session.store.Goals as goal
 
-pub returns-in-err-at : goal.returns-in-err-at
-returns-in-err-at g c =
-    let p = err_from_is_err_and c.from-residual.result c.from-residual.ensures.1 in
+pub returns-in_err-at : goal.returns-in_err-at
+returns-in_err-at g c =
+    let p = err_from_is_err_and c.from_residual.result c.from_residual.ensures.1 in
     rw (p.1, p.2) (λ sound. record {
-      step = store-unaddressed _ c.args.grant.now.number c.args.offset c.args.byte c.in-err-at.field-0.0 c.in-err-at.ensures;
+      step = store-unaddressed _ c.args.grant.now.number c.args.offset c.args.byte c.in_err-at.field-0.0 c.in_err-at.ensures;
       sound = sound;
       own = λ ne. refl;
     })
 
-pub returns-in-err-store : goal.returns-in-err-store
-returns-in-err-store g c =
-    let p = err_from_is_err_and c.from-residual-in-err-store.result c.from-residual-in-err-store.ensures.1 in
-    let b = c.in-ok-at.ensures in
-    let f = c.in-err-store.field-0.0 in
+pub returns-in_err-store : goal.returns-in_err-store
+returns-in_err-store g c =
+    let p = err_from_is_err_and c.from_residual-in_err-store.result c.from_residual-in_err-store.ensures.1 in
+    let b = c.in_ok-at.ensures in
+    let f = c.in_err-store.field-0.0 in
     rw (p.1, p.2) (λ sound.
-    let rule = store_at _ (g.A.Allocator.lawful c.args.self.now.inner sound) c.in-ok-at.at _ b.is _ _ _ (c.in-err-store.ensures.rule sound) in
+    let rule = store_at _ (g.A.Allocator.lawful c.args.self.now.inner sound) c.in_ok-at.at _ b.is _ _ _ (c.in_err-store.ensures.rule sound) in
     record {
       step = store-faulted _ b.span b.among c.args.grant.now.number b.named c.args.offset c.args.byte b.inside _ _ rule f refl;
-      sound = c.in-err-store.ensures.kept sound;
+      sound = c.in_err-store.ensures.kept sound;
       own = own-untaken c.args.self.now.inner c.store.new.self f (refused-address _ tt f rule.answer);
     })
 
 pub returns : goal.returns
 returns g c sound =
-    let b = c.in-ok-at.ensures in
-    let inner = c.in-ok-store.ensures in
-    let at = c.in-ok-at.at in
+    let b = c.in_ok-at.ensures in
+    let inner = c.in_ok-store.ensures in
+    let at = c.in_ok-at.at in
     let lawful = g.A.Allocator.lawful c.args.self.now.inner sound in
     let exact = taken_at _ lawful at _ b.is (accepted _ _ tt tt (inner.rule sound).answer refl) in
     record {

@@ -9,10 +9,10 @@ use Rattle.arena.specs.Views.{HandleSound, memory_at}
 use Rattle.arena.proofs.Steps.{unserved, roomy, unfit, served, marked, beyond, asks_none, asks-not, consulted-push, nil-opened, cons-opened}
 use Rattle.arena.proofs.arena.calls.ArenaHandleAllocator.push_alloc.Goals as goal
 
-pub returns-in-default : goal.returns-in-default
-returns-in-default g c =
+pub returns-in_default : goal.returns-in_default
+returns-in_default g c =
     let h = c.args.self.now in
-    let none = c.in-default.ensures in
+    let none = c.in_default.ensures in
     let shut = nil-opened (blocks_of h.ring) none in
     record {
       kept = λ k. k;
@@ -30,9 +30,9 @@ returns-then-wanted-tail g c =
     let l = c.args.layout in
     let tail = c.in-Some.tail in
     let first = c.in-Some.ensures.first in
-    let pad-is = c.align-offset-pad.ensures.value in
+    let pad-is = c.align_offset-pad.ensures.value in
     let many_is = c.size.ensures.value in
-    let under : c.align-offset-pad.result + c.size.result ≤ c.in-Some.tail.size - 16 - c.args.self.now.used = omega arith in
+    let under : c.align_offset-pad.result + c.size.result ≤ c.in-Some.tail.size - 16 - c.args.self.now.used = omega arith in
     let some = cons-opened (blocks_of h.ring) _ _ first in
     record {
       kept = λ k. k;
@@ -57,9 +57,9 @@ returns g c =
     let l = c.args.layout in
     let tail = c.in-Some.tail in
     let first = c.in-Some.ensures.first in
-    let pad-is = c.align-offset-pad.ensures.value in
+    let pad-is = c.align_offset-pad.ensures.value in
     let many_is = c.size.ensures.value in
-    let over : c.in-Some.tail.size - 16 - c.args.self.now.used < c.align-offset-pad.result + c.size.result = omega arith in
+    let over : c.in-Some.tail.size - 16 - c.args.self.now.used < c.align_offset-pad.result + c.size.result = omega arith in
     let some = cons-opened (blocks_of h.ring) _ _ first in
     let no' : HandleSound g.S.BlockSource.sound g.S.BlockSource.state c.args.self.now → fits (memory_at g.S.BlockSource.state c.args.self.now) c.args.layout.size c.args.layout.align ≡ false =
     (λ k. unfit (g.S.BlockSource.state h.source).blocks (blocks_of h.ring) (place tail) _ h.used l.size l.align _ _ first k.kept pad-is many_is over) in
