@@ -4,13 +4,12 @@ ghost use Rattle.arena.specs.Rings.{room, counted};
 ghost use Rattle.arena.specs.Arenas.{blocks_of};
 
 use crate::ring::Ring;
-use source::BlockSource;
 
 mod calls;
 
 // It starts unopened, with no block.
 #[derive(Drop)]
-pub struct Arena<S: BlockSource> {
+pub struct Arena<S> {
     source: S,
     ring: Ring,
     // the blocks granted after the first one, over the arena's life
@@ -20,7 +19,7 @@ pub struct Arena<S: BlockSource> {
 
 // A handle which can allocate within an arena. It is the arena in use: only its release gives the idle arena back.
 #[derive(Drop)]
-pub struct ArenaHandle<S: BlockSource> {
+pub struct ArenaHandle<S> {
     source: S,
     ring: Ring,
     // how many usable bytes of the newest block are taken

@@ -1,33 +1,11 @@
-// Bytes, positions and cues. Numbers lie in bytes little-endian.
+// How bytes, positions and cues lie in bytes. Numbers are little-endian.
 ghost use Rattle.std.specs.Prelude.{ℕ, ◌%◌, ◌^◌, ◌<◌, List, [], ◌∷◌, ◌++◌, get_or, take, drop, refl};
 ghost use Rattle.kind.specs.Bytes.{little_endian, number, below_power};
-ghost use Rattle.std.proofs.Common.{lit≤, rules, arith};
+ghost use Rattle.std.proofs.Common.{lit<, lit≤};
+ghost use Rattle.kind.specs.Laws.{byte-exact, byte-bytes, byte-again, position-exact, position-bytes, position-again, cue-exact, cue-bytes, cue-again};
 
 use crate::Kind;
-
-#[derive(Clone, Copy)]
-pub struct Byte {
-    pub value: u8,
-    ghost fits: { value < 2 ^ 8 },
-}
-
-// A sample's number on the reel.
-#[derive(Clone, Copy)]
-pub struct Position {
-    pub at: u32,
-    ghost fits: { at < 2 ^ 32 },
-}
-
-// A stretch of the reel under a tag, from that sample on.
-#[derive(Clone, Copy)]
-pub struct Cue {
-    pub sample: u64,
-    pub length: u32,
-    pub tag: u32,
-    ghost fits: { sample < 2 ^ 64 },
-    ghost short: { length < 2 ^ 32 },
-    ghost small: { tag < 2 ^ 32 },
-}
+use crate::element::{Byte, Cue, Position};
 
 impl Kind for Byte {
     ghost wide = { 1 };
@@ -38,15 +16,15 @@ impl Kind for Byte {
 
     ghost unpacked = { λ bs. record { value = number (take 1 bs) % 2 ^ 8; fits = below_power 8 (number (take 1 bs)) } };
 
-    ghost narrow = { first_of (Prim.search rules, Prim.grind (arith, Self.row.coded.inj)) };
+    ghost narrow = { (lit< tt, lit≤ tt) };
 
     ghost aligning = { ((0, refl), lit≤ tt) };
 
-    ghost exact = { first_of (Prim.search rules, Prim.grind (arith, Self.row.coded.inj)) };
+    ghost exact = { byte-exact };
 
-    ghost bytes = { first_of (Prim.search rules, Prim.grind (arith, Self.row.coded.inj)) };
+    ghost bytes = { byte-bytes };
 
-    ghost again = { first_of (Prim.search rules, Prim.grind (arith, Self.row.coded.inj)) };
+    ghost again = { byte-again };
 
     fn width() -> usize {
         1
@@ -74,15 +52,15 @@ impl Kind for Position {
 
     ghost unpacked = { λ bs. record { at = number (take 4 bs) % 2 ^ 32; fits = below_power 32 (number (take 4 bs)) } };
 
-    ghost narrow = { first_of (Prim.search rules, Prim.grind (arith, Self.row.coded.inj)) };
+    ghost narrow = { (lit< tt, lit≤ tt) };
 
     ghost aligning = { ((2, refl), lit≤ tt) };
 
-    ghost exact = { first_of (Prim.search rules, Prim.grind (arith, Self.row.coded.inj)) };
+    ghost exact = { position-exact };
 
-    ghost bytes = { first_of (Prim.search rules, Prim.grind (arith, Self.row.coded.inj)) };
+    ghost bytes = { position-bytes };
 
-    ghost again = { first_of (Prim.search rules, Prim.grind (arith, Self.row.coded.inj)) };
+    ghost again = { position-again };
 
     fn width() -> usize {
         4
@@ -112,15 +90,15 @@ impl Kind for Cue {
 
     ghost unpacked = { λ bs. record { sample = number (take 8 bs) % 2 ^ 64; length = number (take 4 (drop 8 bs)) % 2 ^ 32; tag = number (take 4 (drop 12 bs)) % 2 ^ 32; fits = below_power 64 (number (take 8 bs)); short = below_power 32 (number (take 4 (drop 8 bs))); small = below_power 32 (number (take 4 (drop 12 bs))) } };
 
-    ghost narrow = { first_of (Prim.search rules, Prim.grind (arith, Self.row.coded.inj)) };
+    ghost narrow = { (lit< tt, lit≤ tt) };
 
     ghost aligning = { ((3, refl), lit≤ tt) };
 
-    ghost exact = { first_of (Prim.search rules, Prim.grind (arith, Self.row.coded.inj)) };
+    ghost exact = { cue-exact };
 
-    ghost bytes = { first_of (Prim.search rules, Prim.grind (arith, Self.row.coded.inj)) };
+    ghost bytes = { cue-bytes };
 
-    ghost again = { first_of (Prim.search rules, Prim.grind (arith, Self.row.coded.inj)) };
+    ghost again = { cue-again };
 
     fn width() -> usize {
         16

@@ -4,9 +4,10 @@
 ghost use Rattle.std.specs.Prelude.{◌≡◌, ℕ, ◌<◌, ◌≤◌, List, length, take, slice_index};
 ghost use Rattle.kind.specs.Bytes.{AllBytes, PowerOfTwo};
 
+mod element;
 mod kinds;
 
-pub use kinds::{Byte, Cue, Position};
+pub use element::{Byte, Cue, Position};
 
 // A kind packs each of its elements into as many bytes as it is wide, and gets the element back from them.
 pub trait Kind: Copy {

@@ -18,9 +18,9 @@ use source::BlockSource;
 // Gives the n oldest blocks of the ring back, the newest of them first.
 fn give_back<S: BlockSource>(source: &mut S, ring: &Ring, n: usize)
     requires { n ≤ ring.now.len }
-    ensures kept { sound source.old → sound source.new }
-    ensures own { sound source.old → Gave gives source.old (chain ring.now.records n) source.new }
-    ensures state { sound source.old → state source.new ≡ given_back (state source.old) (chain ring.now.records n) }
+    ensures kept { S.sound source.old → S.sound source.new }
+    ensures own { S.sound source.old → Gave S.gives source.old (chain ring.now.records n) source.new }
+    ensures state { S.sound source.old → S.state source.new ≡ given_back (S.state source.old) (chain ring.now.records n) }
 {
     let mut k = n;
     while k > 0 {
@@ -36,9 +36,9 @@ impl<S: BlockSource> Arena<S> {
 
     // An arena that is not opened yet.
     pub fn new(source: S) -> Arena<S>
-        ensures kept { sound source → IdleSound sound state result }
+        ensures kept { S.sound source → IdleSound S.sound S.state result }
         ensures source { result.source ≡ source }
-        ensures state { idle_of state result ≡ unopened (state source) }
+        ensures state { idle_of S.state result ≡ unopened (S.state source) }
     {
         Arena {
             source,
@@ -49,9 +49,9 @@ impl<S: BlockSource> Arena<S> {
 
     // Opens the arena with at least the requested capacity.
     pub fn with_capacity(&mut self, cap: usize) -> Result<(), ArenaFault>
-        ensures kept { IdleSound sound state self.old → IdleSound sound state self.new }
-        ensures opens { IdleSound sound state self.old → Opens (idle_of state self.old) cap result (idle_of state self.new) }
-        ensures consulted { IdleSound sound state self.old → Consulted chooses (opening (blocks_of self.old.ring) cap) self.old.source (least_power_of (cap + 16)) (answered result (blocks_of self.new.ring)) self.new.source }
+        ensures kept { IdleSound S.sound S.state self.old → IdleSound S.sound S.state self.new }
+        ensures opens { IdleSound S.sound S.state self.old → Opens (idle_of S.state self.old) cap result (idle_of S.state self.new) }
+        ensures consulted { IdleSound S.sound S.state self.old → Consulted S.chooses (opening (blocks_of self.old.ring) cap) self.old.source (least_power_of (cap + 16)) (answered result (blocks_of self.new.ring)) self.new.source }
     {
         if let Some(_) = self.ring.tail() {
             return Err(ArenaFault::AlreadyOpened);
@@ -69,10 +69,10 @@ impl<S: BlockSource> Arena<S> {
 
     // Gives back all blocks but the newest, and answers its usable length.
     pub fn shrink(&mut self) -> usize
-        ensures kept { IdleSound sound state self.old → IdleSound sound state self.new }
+        ensures kept { IdleSound S.sound S.state self.old → IdleSound S.sound S.state self.new }
         ensures answer { result ≡ room (blocks_of self.old.ring) }
-        ensures state { IdleSound sound state self.old → idle_of state self.new ≡ shrunk (idle_of state self.old) }
-        ensures gave { IdleSound sound state self.old → Gave gives self.old.source (before (blocks_of self.old.ring)) self.new.source }
+        ensures state { IdleSound S.sound S.state self.old → idle_of S.state self.new ≡ shrunk (idle_of S.state self.old) }
+        ensures gave { IdleSound S.sound S.state self.old → Gave S.gives self.old.source (before (blocks_of self.old.ring)) self.new.source }
     {
         let Some(b) = self.ring.tail() else {
             return 0;
@@ -109,10 +109,10 @@ impl<S: BlockSource> Arena<S> {
 
     // Shrinks the arena, and acquires a handle to it. Nothing of its newest block is taken.
     pub fn acquire(self) -> ArenaHandle<S>
-        ensures kept { IdleSound sound state self → HandleSound sound state result }
+        ensures kept { IdleSound S.sound S.state self → HandleSound S.sound S.state result }
         ensures mark { result.used ≡ 0 }
-        ensures state { IdleSound sound state self → handle_of state result ≡ shrunk (idle_of state self) }
-        ensures gave { IdleSound sound state self → Gave gives self.source (before (blocks_of self.ring)) result.source }
+        ensures state { IdleSound S.sound S.state self → handle_of S.state result ≡ shrunk (idle_of S.state self) }
+        ensures gave { IdleSound S.sound S.state self → Gave S.gives self.source (before (blocks_of self.ring)) result.source }
     {
         let mut idle = self;
         let _ = idle.shrink();
@@ -131,9 +131,9 @@ impl<S: BlockSource> Arena<S> {
 
     // Gives every block back, and answers the source.
     pub fn close(self) -> S
-        ensures kept { IdleSound sound state self → sound result }
-        ensures state { IdleSound sound state self → state result ≡ given_back (state self.source) (blocks_of self.ring) }
-        ensures gave { IdleSound sound state self → Gave gives self.source (blocks_of self.ring) result }
+        ensures kept { IdleSound S.sound S.state self → S.sound result }
+        ensures state { IdleSound S.sound S.state self → S.state result ≡ given_back (S.state self.source) (blocks_of self.ring) }
+        ensures gave { IdleSound S.sound S.state self → Gave S.gives self.source (blocks_of self.ring) result }
     {
         let Arena {
             source,
@@ -150,9 +150,9 @@ impl<S: BlockSource> Arena<S> {
 impl<S: BlockSource> ArenaHandle<S> {
     // The idle arena again, with its blocks as they are.
     pub fn release(self) -> Arena<S>
-        ensures kept { HandleSound sound state self → IdleSound sound state result }
+        ensures kept { HandleSound S.sound S.state self → IdleSound S.sound S.state result }
         ensures source { result.source ≡ self.source }
-        ensures state { idle_of state result ≡ handle_of state self }
+        ensures state { idle_of S.state result ≡ handle_of S.state self }
     {
         let ArenaHandle {
             source,
@@ -183,9 +183,9 @@ impl<S: BlockSource> ArenaHandle<S> {
     fn grow(&mut self, last: usize, layout: Layout) -> Result<usize, Fault>
         requires last { newest_size (blocks_of self.old.ring) ≡ last }
         requires opened { opened (blocks_of self.old.ring) ≡ true }
-        ensures kept { HandleSound sound state self.old → HandleSound sound state self.new }
-        ensures extends { HandleSound sound state self.old → Extends (handle_of state self.old) self.old.used layout.size layout.align result (handle_of state self.new) self.new.used }
-        ensures consulted { HandleSound sound state self.old → Consulted chooses (nat_le (wanted last layout.size layout.align) 67108864) self.old.source (wanted last layout.size layout.align) (answered result (blocks_of self.new.ring)) self.new.source }
+        ensures kept { HandleSound S.sound S.state self.old → HandleSound S.sound S.state self.new }
+        ensures extends { HandleSound S.sound S.state self.old → Extends (handle_of S.state self.old) self.old.used layout.size layout.align result (handle_of S.state self.new) self.new.used }
+        ensures consulted { HandleSound S.sound S.state self.old → Consulted S.chooses (nat_le (wanted last layout.size layout.align) 67108864) self.old.source (wanted last layout.size layout.align) (answered result (blocks_of self.new.ring)) self.new.source }
     {
         let Some(least) = least_power(16 + layout.size() + layout.align()) else {
             return Err(Fault::DoesNotFit(Cause::BlockLimit));
@@ -206,17 +206,17 @@ impl<S: BlockSource> ArenaHandle<S> {
 }
 
 impl<S: BlockSource> Allocator for ArenaHandle<S> {
-    ghost blocks = { λ h. memory_at state h };
+    ghost blocks = { λ h. memory_at S.state h };
 
-    ghost sound = { λ h. HandleSound sound state h };
+    ghost sound = { λ h. HandleSound S.sound S.state h };
 
-    ghost lawful = { λ h k. memory-lawful (state h.source).blocks (lawful h.source k.source) (blocks_of h.ring) h.used k.kept h.ring.rises h.marked };
+    ghost lawful = { λ h k. memory-lawful (S.state h.source).blocks (S.lawful h.source k.source) (blocks_of h.ring) h.used k.kept h.ring.rises h.marked };
 
-    ghost pushes = { λ h size align r h'. Pushes (handle_of state h) (fits (memory_at state h) size align) size align r (handle_of state h') × Consulted chooses (pushing (blocks_of h.ring) (fits (memory_at state h) size align) size align) h.source (wanted (newest_size (blocks_of h.ring)) size align) (answered r (blocks_of h'.ring)) h'.source };
+    ghost pushes = { λ h size align r h'. Pushes (handle_of S.state h) (fits (memory_at S.state h) size align) size align r (handle_of S.state h') × Consulted S.chooses (pushing (blocks_of h.ring) (fits (memory_at S.state h) size align) size align) h.source (wanted (newest_size (blocks_of h.ring)) size align) (answered r (blocks_of h'.ring)) h'.source };
 
-    ghost pops = { λ h at size r h'. (handle_of state h' ≡ handle_of state h) × (h'.source ≡ h.source) };
+    ghost pops = { λ h at size r h'. (handle_of S.state h' ≡ handle_of S.state h) × (h'.source ≡ h.source) };
 
-    ghost stores = { λ h at byte r h'. (handle_of state h' ≡ putting (handle_of state h) (taken (memory_at state h) at) at byte) × Put S.BlockSource.stores (taken (memory_at state h) at) h.source at byte h'.source };
+    ghost stores = { λ h at byte r h'. (handle_of S.state h' ≡ putting (handle_of S.state h) (taken (memory_at S.state h) at) at byte) × Put S.stores (taken (memory_at S.state h) at) h.source at byte h'.source };
 
     fn push_alloc(&mut self, layout: Layout) -> Result<usize, Fault> {
         let Some(tail) = self.ring.tail() else {

@@ -10,13 +10,12 @@ pub invariant_of-self : goal.invariant_of-self
 invariant_of-self c =
     let r = c.args.self.now in
     let e = c.remove-stay.ensures in
-    let few = r.few in (
-      omega arith,
-      (
-        ap (λ (ps : List Place). keeps (usable (length (vec_items c.args.self.now.bytes))) ps) e.left ∙ keeps-leaving (usable (length (vec_items r.bytes))) (chain r.slots r.count) c.args.base r.apart,
-        tt,
-      ),
-    )
+    let few = r.few in
+    record {
+      few = omega arith;
+      apart =
+          ap (λ (ps : List Place). keeps (usable (length (vec_items c.args.self.now.bytes))) ps) e.left ∙ keeps-leaving (usable (length (vec_items r.bytes))) (chain r.slots r.count) c.args.base r.apart;
+    }
 
 pub returns-then-found : goal.returns-then-found
 returns-then-found c =

@@ -31,7 +31,10 @@ invariant_of-self-2 c =
     let few = r.few in
     let len = c.len-len.ensures in
     let low = rw len at c.in-Some.ensures in
-    (omega arith, (served r.slots r.count (usable (length (vec_items r.bytes))) c.args.size c.in-Some.at (omega arith) (omega arith) r.apart low, tt))
+    record {
+      few = omega arith;
+      apart = served r.slots r.count (usable (length (vec_items r.bytes))) c.args.size c.in-Some.at (omega arith) (omega arith) r.apart low;
+    }
 
 pub returns : goal.returns
 returns c =

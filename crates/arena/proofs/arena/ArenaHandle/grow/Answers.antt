@@ -71,13 +71,13 @@ invariant_of-self-2 g c =
     let s = g.S.BlockSource.state h.source in
     let ps = blocks_of h.ring in
     let linked = c.push_next.ensures in
-    let doubles = grow-doubles s s ps _ _ _ _ _ _ _ 0 0 c.requires.last c.max-size.ensures c.in-Some.ensures c.size.ensures.value c.align.ensures.value in (
-      subst (λ (qs : List Place). counted (c.args.self.now.growths + 1) qs ≡ true) (sym linked) (counts h.growths c.max-size.result ps h.counted c.requires.opened doubles),
-      (
-        grow-room s s ps _ _ _ _ _ _ _ 0 0 c.requires.last c.max-size.ensures c.in-Some.ensures c.size.ensures.value c.align.ensures.value _ _ _ _ _ linked refl c.align_offset-pad.ensures.bound c.size-2.ensures.value,
-        tt,
-      ),
-    )
+    let doubles = grow-doubles s s ps _ _ _ _ _ _ _ 0 0 c.requires.last c.max-size.ensures c.in-Some.ensures c.size.ensures.value c.align.ensures.value in
+    record {
+      counted =
+          subst (λ (qs : List Place). counted (c.args.self.now.growths + 1) qs ≡ true) (sym linked) (counts h.growths c.max-size.result ps h.counted c.requires.opened doubles);
+      marked =
+          grow-room s s ps _ _ _ _ _ _ _ 0 0 c.requires.last c.max-size.ensures c.in-Some.ensures c.size.ensures.value c.align.ensures.value _ _ _ _ _ linked refl c.align_offset-pad.ensures.bound c.size-2.ensures.value;
+    }
 
 pub returns : goal.returns
 returns g c =

@@ -16,13 +16,12 @@ invariant_of-self c =
     let room : c.args.self.now.len < 23 = roomy r.records r.len c.args.size r.rises c.requires.doubles c.requires.small in
     let inside : c.args.self.now.len < length c.args.self.now.records = omega arith in
     let new = risen (record { base = c.args.address; size = c.args.size }) (chain r.records r.len) c.requires.some c.requires.small c.requires.low c.requires.doubles r.rises in
-    rw c.saturating_sub-last.ensures (
-      omega arith,
-      (
-        linked r.records r.len c.args.address c.args.size inside r.linked,
-        (ap rising (chains r.records r.len c.args.address c.args.size inside) ∙ new, tt),
-      ),
-    )
+    rw c.saturating_sub-last.ensures
+    (record {
+      few = omega arith;
+      linked = linked r.records r.len c.args.address c.args.size inside r.linked;
+      rises = ap rising (chains r.records r.len c.args.address c.args.size inside) ∙ new;
+    })
 
 pub returns : goal.returns
 returns c =

@@ -1,6 +1,6 @@
 -- A byte is read from the first of the buffer.
 use Rattle.std.proofs.Common.{◌^◌, ◌<◌, get_or, arith}
-use Rattle.kind.proofs.Elements.{byte-same, limited, one}
+use Rattle.kind.specs.Elements.{byte-same, limited, one}
 use Rattle.kind.proofs.kinds.ByteKind.unpack.Goals as goal
 
 pub returns : goal.returns

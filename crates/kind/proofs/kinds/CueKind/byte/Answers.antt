@@ -2,7 +2,7 @@
 use Rattle.std.proofs.Common.{◌≡◌, ◌-◌, ◌<◌, ◌++◌, get_or, sym, refl, ap, ◌∙◌, arith}
 use Rattle.std.proofs.lemmas.List.{get_or_append_left, get_or-append_right}
 use Rattle.kind.specs.Bytes.{little_endian}
-use Rattle.kind.proofs.Endian.{le4, le8}
+use Rattle.kind.specs.Endian.{le4, le8}
 use Rattle.kind.proofs.kinds.CueKind.byte.Goals as goal
 
 pub returns-then-i-lt8 : goal.returns-then-i-lt8

@@ -29,7 +29,7 @@ returns g c sound =
     let s = c.args.self.now in
     let some : 0 < s.count = omega arith in
     let few : s.count ≤ length s.spans = omega arith in
-    let performed = c.pop-newest.ensures sound in
+    let performed = c.pop_newest.ensures sound in
     record {
       step = pop-newest performed.step _ _ (live-newest s.spans s.count c.index-self-self.result some few) c.args.grant c.if-self-grant.false;
       sound = performed.sound;

@@ -13,6 +13,10 @@ pub bytes-little_endian : (width n : ℕ) → AllBytes (little_endian width n)
 bytes-little_endian zero n = tt
 bytes-little_endian (suc width) n = (mod-lt n (lit< tt), bytes-little_endian width (n / 256))
 
+pub bytes-append : (xs ys : List ℕ) → AllBytes xs → AllBytes ys → AllBytes (xs ++ ys)
+bytes-append [] ys bytes more = more
+bytes-append (x ∷ xs) ys (small, bytes) more = (small, bytes-append xs ys bytes more)
+
 pub number-little_endian : (width n : ℕ) → n < 256 ^ width → number (little_endian width n) ≡ n
 number-little_endian zero n less = omega (arith, pow-zero 256)
 number-little_endian (suc width) n less =

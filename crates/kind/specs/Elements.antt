@@ -2,10 +2,10 @@
 use Rattle.std.proofs.Common.{◌≡◌, ℕ, suc, ◌+◌, ◌*◌, ◌%◌, ◌^◌, ◌<◌, ◌≤◌, List, [], ◌∷◌, get_or, take, drop, sym, refl, ap, ◌∙◌, subst, mod-eq_of_lt, arith, lit<, lit≤}
 use native.Mathlib.Bridge.{le_prop}
 use Rattle.kind.specs.Bytes.{little_endian, number}
-use Rattle.kind.specs.declared.kinds.Byte.{Byte}
-use Rattle.kind.specs.declared.kinds.Position.{Position}
-use Rattle.kind.specs.declared.kinds.Cue.{Cue}
-use Rattle.kind.proofs.Endian.{number-little_endian, number-part, part-front}
+use Rattle.kind.specs.declared.element.Byte.{Byte}
+use Rattle.kind.specs.declared.element.Position.{Position}
+use Rattle.kind.specs.declared.element.Cue.{Cue}
+use Rattle.kind.specs.Endian.{number-little_endian, number-part, part-front}
 
 -- elements with the same numbers are the same
 pub byte-same : {a b : ℕ} → a ≡ b → (p : a < 2 ^ 8) (q : b < 2 ^ 8) → ◌≡◌ {A = Byte} (record { value = a; fits = p }) (record { value = b; fits = q })

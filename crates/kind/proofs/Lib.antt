@@ -1,2 +1,0 @@
-pub mod Endian
-mod Elements
