@@ -37,8 +37,17 @@ lived (loads other offset there less on) span old here = here
 lived (stores other offset value there less on) span old here = here
 
 -- an accepted store is inside the one span of its grant
-store-inside : {s s' : State} {grant offset value : ℕ} → Step s (store grant offset value) done s' → (span : Span) × Among span s.live × (span.grant ≡ grant) × (offset < span.size)
-store-inside (stores span offset value here less on) = (span, here, refl, less)
+store-inside : {s s' : State} {call : Call} {answer : Answer} → Step s call answer s' → (grant offset value : ℕ) → call ≡ store grant offset value → answer ≡ done →
+    (span : Span) × Among span s.live × (span.grant ≡ grant) × (offset < span.size)
+store-inside (refuses why) grant offset value is_call is_done = absurd cc
+store-inside (serves sized aligning room rule) grant offset value is_call is_done = absurd cc
+store-inside (pops span older newest on) grant offset value is_call is_done = absurd cc
+store-inside (pops_newest span older newest on) grant offset value is_call is_done = absurd cc
+store-inside (loads span other here less on) grant offset value is_call is_done = absurd cc
+store-inside (stores span other byte here less on) grant offset value is_call is_done =
+    let named : span.grant ≡ grant = cc in
+    let same : other ≡ offset = cc in
+    (span, here, named, subst (λ (n : ℕ). n < span.size) same less)
 
 module _ {A : Type 0} (al : Ghosts A) where
   regular-granted : {s : Session A} → Regular al s → (span : Span) → Among span (state al s).live → span.grant ≤ (state al s).given
@@ -51,10 +60,10 @@ module _ {A : Type 0} (al : Ghosts A) where
   run-given regular (visited run performs) = omega (arith, run-given regular run, given-rises (performs (regular-sound al (regular-after al regular run))).step)
 
   -- one call leaves the bytes of a live span whose grant it does not store through
-  step-lasts : {s s' : Session A} {call : Call} {answer : Answer} → Regular al s → Step (state al s) call answer (state al s') → al.sound s'.inner →
+  step-lasts : {s : Session A} (s' : Session A) {call : Call} {answer : Answer} → Regular al s → Step (state al s) call answer (state al s') → al.sound s'.inner →
       (span : Span) → Among span (state al s).live → ((offset value : ℕ) → call ≡ store span.grant offset value → answer ≡ done → ⊥) →
       (at : ℕ) → span.at ≤ at → at < span.at + span.size → byte_at (state al s').memory at ≡ byte_at (state al s).memory at
-  step-lasts {s} {s'} {call} {answer} regular step sound span here not at low high =
+  step-lasts {s} s' {call} {answer} regular step sound span here not at low high =
       let separation = regular-separation al regular in
       let there : Among span (ledger_of regular.events).live = subst (λ l. Among span l) (sym separation.recorded) here in
       let inside = within-from (state al s).memory span at (each_at (InOneBlock (state al s).memory) _ span separation.contained there) low high in
@@ -63,7 +72,7 @@ module _ {A : Type 0} (al : Ghosts A) where
       elim (cases_eq other.grant span.grant) [
         | inl same ↦ not offset value (is_call ∙ ap (λ g. store g offset value) same) is-done
         | inr differ ↦
-            let (holder, held, named, less) = store-inside (subst (λ a. Step (state al s) (store other.grant offset value) a (state al s')) is-done (subst (λ c. Step (state al s) c answer (state al s')) is_call step)) in
+            let (holder, held, named, less) = store-inside step other.grant offset value is_call is-done in
             let one : holder ≡ other = separation.unique holder other (subst (λ l. Among holder l) (sym separation.recorded) held) among named in
             let size : holder.size ≡ other.size = ap (λ (x : Span). x.size) one in
             elim (separate-at _ span other separation.separate there among (λ e. differ (sym e))) [ inl before ↦ omega arith | inr after ↦ omega arith ]
@@ -78,4 +87,4 @@ module _ {A : Type 0} (al : Ghosts A) where
       let performed = performs (regular-sound al between) in
       let old : span.grant ≤ (state al s₁).given = omega (arith, regular-granted regular span here, run-given regular run) in
       let middle : Among span (state al s₁).live = lived performed.step span old there in
-      step-lasts between performed.step performed.sound span middle not at low high ∙ lasting regular run span here middle none at low high
+      step-lasts s' between performed.step performed.sound span middle not at low high ∙ lasting regular run span here middle none at low high
