@@ -25,15 +25,15 @@ write_all-requires g c =
     let n = g.met.K.Kind.narrow in
     (offset-low h.len c.width-width.result (omega (arith, h.fits, h.small)) (omega (arith, n.1, c.width-width.ensures)), omega (arith, h.small))
 
-pub returns-in_err-write_all : goal.returns-in_err-write_all
-returns-in_err-write_all g c =
+pub returns-in_err-write_all-in-Some : goal.returns-in_err-write_all-in-Some
+returns-in_err-write_all-in-Some g c =
     let p = err_from_is_err_and c.from_residual.result c.from_residual.ensures.1 in
     let h = c.args.self.now.header in
     let room : length c.args.other.now ≤ h.cap - h.len = omega arith in
-    rw (p.1, p.2) (extending-cut-by g.A.Allocator g.K.Kind (plain c.args.self.now.header) c.args.session.now c.in-Some.grant c.in-Some.is (lives-as g.A.Allocator g.K.Kind.wide (plain c.args.self.now.header) c.args.session.now c.width-width.result c.width-width.ensures c.is_live.result c.is_live.ensures.yes c.if-not-is_live.false) g.met.K.Kind.exact g.met.K.Kind.again c.write_all.new.session c.args.other.now room c.width-width.result c.width-width.ensures c.args.self.now.header.fits c.in_err-write_all.ensures)
+    rw (p.1, p.2) (extending-cut-by g.A.Allocator g.K.Kind (plain c.args.self.now.header) c.args.session.now c.in-Some.grant c.in-Some.is (lives-as g.A.Allocator g.K.Kind.wide (plain c.args.self.now.header) c.args.session.now c.width-width.result c.width-width.ensures c.is_live.result c.is_live.ensures.yes c.if-not-is_live.false) g.met.K.Kind.exact g.met.K.Kind.again c.write_all.new.session c.args.other.now room c.width-width.result c.width-width.ensures c.args.self.now.header.fits c.in_err-write_all-in-Some.ensures)
 
 pub returns : goal.returns
 returns g c =
     let h = c.args.self.now.header in
     let room : length c.args.other.now ≤ h.cap - h.len = omega arith in
-    extending-by g.A.Allocator g.K.Kind (plain c.args.self.now.header) c.args.session.now c.in-Some.grant c.in-Some.is (lives-as g.A.Allocator g.K.Kind.wide (plain c.args.self.now.header) c.args.session.now c.width-width.result c.width-width.ensures c.is_live.result c.is_live.ensures.yes c.if-not-is_live.false) g.met.K.Kind.exact g.met.K.Kind.again c.write_all.new.session c.args.other.now room c.width-width.result c.width-width.ensures c.args.self.now.header.fits c.in_ok-write_all.ensures
+    extending-by g.A.Allocator g.K.Kind (plain c.args.self.now.header) c.args.session.now c.in-Some.grant c.in-Some.is (lives-as g.A.Allocator g.K.Kind.wide (plain c.args.self.now.header) c.args.session.now c.width-width.result c.width-width.ensures c.is_live.result c.is_live.ensures.yes c.if-not-is_live.false) g.met.K.Kind.exact g.met.K.Kind.again c.write_all.new.session c.args.other.now room c.width-width.result c.width-width.ensures c.args.self.now.header.fits c.in_ok-write_all-in-Some.ensures

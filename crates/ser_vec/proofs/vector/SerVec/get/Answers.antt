@@ -17,13 +17,13 @@ read-requires g c =
     let n = g.met.K.Kind.narrow in
     offset-low c.args.index c.width-width.result (omega (arith, h.fits, h.small)) (omega (arith, n.1, c.width-width.ensures))
 
-pub returns-in_err-read : goal.returns-in_err-read
-returns-in_err-read g c =
+pub returns-in_err-read-in-Some : goal.returns-in_err-read-in-Some
+returns-in_err-read-in-Some g c =
     let p = err_from_is_err_and c.from_residual.result c.from_residual.ensures.1 in
     let less : c.args.index < c.args.self.now.header.len = omega arith in
-    rw (p.1, p.2) (getting-cut-by g.A.Allocator g.K.Kind (plain c.args.self.now.header) c.args.session.now c.in-Some.grant c.in-Some.is (lives-as g.A.Allocator g.K.Kind.wide (plain c.args.self.now.header) c.args.session.now c.width-width.result c.width-width.ensures c.is_live.result c.is_live.ensures.yes c.if-not-is_live.false) c.args.index less c.width-width.result c.width-width.ensures c.args.self.now.header.fits c.in_err-read.ensures)
+    rw (p.1, p.2) (getting-cut-by g.A.Allocator g.K.Kind (plain c.args.self.now.header) c.args.session.now c.in-Some.grant c.in-Some.is (lives-as g.A.Allocator g.K.Kind.wide (plain c.args.self.now.header) c.args.session.now c.width-width.result c.width-width.ensures c.is_live.result c.is_live.ensures.yes c.if-not-is_live.false) c.args.index less c.width-width.result c.width-width.ensures c.args.self.now.header.fits c.in_err-read-in-Some.ensures)
 
-pub returns-in_ok-read : goal.returns-in_ok-read
-returns-in_ok-read g c =
+pub returns-in_ok-read-in-Some : goal.returns-in_ok-read-in-Some
+returns-in_ok-read-in-Some g c =
     let less : c.args.index < c.args.self.now.header.len = omega arith in
-    getting-by g.A.Allocator g.K.Kind (plain c.args.self.now.header) c.args.session.now c.in-Some.grant c.in-Some.is (lives-as g.A.Allocator g.K.Kind.wide (plain c.args.self.now.header) c.args.session.now c.width-width.result c.width-width.ensures c.is_live.result c.is_live.ensures.yes c.if-not-is_live.false) c.args.index less c.width-width.result c.width-width.ensures c.args.self.now.header.fits c.in_ok-read.field-0 c.in_ok-read.ensures
+    getting-by g.A.Allocator g.K.Kind (plain c.args.self.now.header) c.args.session.now c.in-Some.grant c.in-Some.is (lives-as g.A.Allocator g.K.Kind.wide (plain c.args.self.now.header) c.args.session.now c.width-width.result c.width-width.ensures c.is_live.result c.is_live.ensures.yes c.if-not-is_live.false) c.args.index less c.width-width.result c.width-width.ensures c.args.self.now.header.fits c.in_ok-read-in-Some.field-0 c.in_ok-read-in-Some.ensures

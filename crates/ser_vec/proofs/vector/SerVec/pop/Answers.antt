@@ -17,13 +17,13 @@ read-requires g c =
     let n = g.met.K.Kind.narrow in
     offset-low (c.args.self.now.header.len - 1) c.width-width.result (omega (arith, h.fits, h.small)) (omega (arith, n.1, c.width-width.ensures))
 
-pub returns-in_err-x : goal.returns-in_err-x
-returns-in_err-x g c =
+pub returns-in_err-x-in-Some : goal.returns-in_err-x-in-Some
+returns-in_err-x-in-Some g c =
     let p = err_from_is_err_and c.from_residual.result c.from_residual.ensures.1 in
     let some : 0 < c.args.self.now.header.len = omega arith in
-    rw (p.1, p.2) (popping-cut-by g.A.Allocator g.K.Kind (plain c.args.self.now.header) c.args.session.now c.in-Some.grant c.in-Some.is (lives-as g.A.Allocator g.K.Kind.wide (plain c.args.self.now.header) c.args.session.now c.width-width.result c.width-width.ensures c.is_live.result c.is_live.ensures.yes c.if-not-is_live.false) some c.width-width.result c.width-width.ensures c.args.self.now.header.fits c.in_err-x.ensures)
+    rw (p.1, p.2) (popping-cut-by g.A.Allocator g.K.Kind (plain c.args.self.now.header) c.args.session.now c.in-Some.grant c.in-Some.is (lives-as g.A.Allocator g.K.Kind.wide (plain c.args.self.now.header) c.args.session.now c.width-width.result c.width-width.ensures c.is_live.result c.is_live.ensures.yes c.if-not-is_live.false) some c.width-width.result c.width-width.ensures c.args.self.now.header.fits c.in_err-x-in-Some.ensures)
 
 pub returns : goal.returns
 returns g c =
     let some : 0 < c.args.self.now.header.len = omega arith in
-    popping-by g.A.Allocator g.K.Kind (plain c.args.self.now.header) c.args.session.now c.in-Some.grant c.in-Some.is (lives-as g.A.Allocator g.K.Kind.wide (plain c.args.self.now.header) c.args.session.now c.width-width.result c.width-width.ensures c.is_live.result c.is_live.ensures.yes c.if-not-is_live.false) some c.width-width.result c.width-width.ensures c.args.self.now.header.fits c.in_ok-x.x c.in_ok-x.ensures
+    popping-by g.A.Allocator g.K.Kind (plain c.args.self.now.header) c.args.session.now c.in-Some.grant c.in-Some.is (lives-as g.A.Allocator g.K.Kind.wide (plain c.args.self.now.header) c.args.session.now c.width-width.result c.width-width.ensures c.is_live.result c.is_live.ensures.yes c.if-not-is_live.false) some c.width-width.result c.width-width.ensures c.args.self.now.header.fits c.in_ok-x-in-Some.x c.in_ok-x-in-Some.ensures

@@ -17,13 +17,13 @@ write-requires g c =
     let n = g.met.K.Kind.narrow in
     offset-low c.args.index c.width-width.result (omega (arith, h.fits, h.small)) (omega (arith, n.1, c.width-width.ensures))
 
-pub returns-in_err-write : goal.returns-in_err-write
-returns-in_err-write g c =
+pub returns-in_err-write-in-Some : goal.returns-in_err-write-in-Some
+returns-in_err-write-in-Some g c =
     let p = err_from_is_err_and c.from_residual.result c.from_residual.ensures.1 in
     let less : c.args.index < c.args.self.now.header.len = omega arith in
-    rw (p.1, p.2) (setting-cut-by g.A.Allocator g.K.Kind (plain c.args.self.now.header) c.args.session.now c.in-Some.grant c.in-Some.is (lives-as g.A.Allocator g.K.Kind.wide (plain c.args.self.now.header) c.args.session.now c.width-width.result c.width-width.ensures c.is_live.result c.is_live.ensures.yes c.if-not-is_live.false) g.met.K.Kind.exact g.met.K.Kind.again c.write.new.session c.args.index c.args.value less c.width-width.result c.width-width.ensures c.args.self.now.header.fits c.in_err-write.ensures)
+    rw (p.1, p.2) (setting-cut-by g.A.Allocator g.K.Kind (plain c.args.self.now.header) c.args.session.now c.in-Some.grant c.in-Some.is (lives-as g.A.Allocator g.K.Kind.wide (plain c.args.self.now.header) c.args.session.now c.width-width.result c.width-width.ensures c.is_live.result c.is_live.ensures.yes c.if-not-is_live.false) g.met.K.Kind.exact g.met.K.Kind.again c.write.new.session c.args.index c.args.value less c.width-width.result c.width-width.ensures c.args.self.now.header.fits c.in_err-write-in-Some.ensures)
 
-pub returns-in_ok-write : goal.returns-in_ok-write
-returns-in_ok-write g c =
+pub returns-in_ok-write-in-Some : goal.returns-in_ok-write-in-Some
+returns-in_ok-write-in-Some g c =
     let less : c.args.index < c.args.self.now.header.len = omega arith in
-    setting-by g.A.Allocator g.K.Kind (plain c.args.self.now.header) c.args.session.now c.in-Some.grant c.in-Some.is (lives-as g.A.Allocator g.K.Kind.wide (plain c.args.self.now.header) c.args.session.now c.width-width.result c.width-width.ensures c.is_live.result c.is_live.ensures.yes c.if-not-is_live.false) g.met.K.Kind.exact g.met.K.Kind.again c.write.new.session c.args.index c.args.value less c.width-width.result c.width-width.ensures c.args.self.now.header.fits c.in_ok-write.ensures
+    setting-by g.A.Allocator g.K.Kind (plain c.args.self.now.header) c.args.session.now c.in-Some.grant c.in-Some.is (lives-as g.A.Allocator g.K.Kind.wide (plain c.args.self.now.header) c.args.session.now c.width-width.result c.width-width.ensures c.is_live.result c.is_live.ensures.yes c.if-not-is_live.false) g.met.K.Kind.exact g.met.K.Kind.again c.write.new.session c.args.index c.args.value less c.width-width.result c.width-width.ensures c.args.self.now.header.fits c.in_ok-write-in-Some.ensures
