@@ -1,10 +1,10 @@
 -- A push under the rules answers fresh memory that fits the layout, and its pop undoes it.
-use Rattle.std.proofs.Common.{◌≡◌, ℕ, ◌+◌, ◌-◌, ◌<◌, ◌≤◌, Bool, true, false, cond, List, [], ◌∷◌, length, Ok, Err, Result, sym, refl, ap, ◌∙◌, subst, inl, inr, arith}
+use Rattle.std.proofs.Common.{◌≡◌, ℕ, ◌+◌, ◌-◌, ◌<◌, ◌≤◌, true, false, [], ◌∷◌, length, Ok, Result, sym, refl, ap, ◌∙◌, subst, inl, inr, arith}
 use Rattle.std.proofs.lemmas.Bool.{both_ways, cases_Bool, cases_lt, leb-true, le-leb, cond-true, cond-false}
 use Rattle.allocator.specs.Layouts.{pad}
-use Rattle.allocator.specs.Memory.{Block, Memory, Lawful, top, inside, taken_in, within, taken, byte_at, marked, fits, placed, pushed, full, popped}
-use Rattle.allocator.specs.Answers.{Push, fitted, further, refused, Pop, asked}
-use Rattle.allocator.specs.Laws.{Last, Fresh, Served, Undone, Undoes}
+use Rattle.allocator.specs.Memory.{Block, Memory, Lawful, top, inside, taken_in, within, taken, marked, fits, placed, pushed, full}
+use Rattle.allocator.specs.Answers.{Push, fitted, further, refused, Pop}
+use Rattle.allocator.specs.Laws.{Fresh, Served, Undone, Undoes}
 use Rattle.allocator.specs.declared.fault.Fault.{Fault}
 use Rattle.allocator.proofs.Pads.{pad-aligned, pad-aligns}
 use Rattle.allocator.proofs.Spans.{spans-true, spans-from, spans-past, spans-wider, taken-cases, taken-newest, taken-older, untaken-both, untaken-outside, within-full, byte_at-full, taken-full}

@@ -1,10 +1,10 @@
 -- The table of a ring: with one more block, and with its newest alone.
-use Rattle.std.proofs.Common.{◌≡◌, ℕ, zero, suc, ◌+◌, ◌-◌, ◌*◌, ◌^◌, ◌<◌, ◌≤◌, Bool, true, false, cond, ◌&&◌, ltb, leb, ◌≢◌, List, [], ◌∷◌, length, get_or, set, sym, refl, ap, ◌∙◌, subst, inl, inr, add-one, arith, length-set, get_or-set_other, get_or-set_same, pow_mono}
+use Rattle.std.proofs.Common.{◌≡◌, ℕ, zero, suc, ◌+◌, ◌-◌, ◌*◌, ◌^◌, ◌<◌, ◌≤◌, true, false, ltb, ◌≢◌, List, [], ◌∷◌, length, set, refl, ap, ◌∙◌, subst, inl, inr, add-one, arith, length-set, get_or-set_other, get_or-set_same, pow_mono}
 use native.Mathlib.Nat.{two-pow-succ}
 use Rattle.std.proofs.lemmas.Bool.{cases_lt, lt-ltb, le-ltb, le-leb, and_from}
 use Rattle.source.specs.Blocks.{Place}
 use Rattle.arena.specs.declared.record.BlockRecord.{BlockRecord}
-use Rattle.arena.specs.Rings.{nothing, nth, place, chain, after, Linked, onto, joined, newest, newest_size, rising, total}
+use Rattle.arena.specs.Rings.{nothing, nth, place, chain, Linked, onto, joined, newest, newest_size, rising, total}
 use Rattle.arena.specs.Keeps.{Rise, rise}
 
 pub risen : (p : Place) (ps : List Place) → 16 ≤ p.size → p.size ≤ 67108864 → p.base < 2 ^ 48 → 2 * newest_size ps ≤ p.size → rising ps ≡ true → rising (p ∷ ps) ≡ true

@@ -1,7 +1,7 @@
 -- The steps of an arena: what a request comes to, and a push, as any allocator's.
-use Rattle.std.proofs.Common.{◌≡◌, ℕ, suc, ◌+◌, ◌-◌, ◌*◌, ◌%◌, ◌^◌, ◌<◌, ◌≤◌, max, Bool, true, false, cond, not, ◌&&◌, ◌||◌, eqb, ltb, leb, List, [], ◌∷◌, length, drop, Ok, Err, Result, sym, refl, ap, ◌∙◌, subst, ap₂, inl, inr, arith, pow_mono, w64, Fits, rules}
+use Rattle.std.proofs.Common.{◌≡◌, ℕ, suc, ◌+◌, ◌-◌, ◌*◌, ◌%◌, ◌^◌, ◌<◌, ◌≤◌, max, Bool, true, false, ltb, leb, List, [], ◌∷◌, length, drop, Ok, Err, Result, sym, refl, ap, ◌∙◌, subst, ap₂, inl, inr, arith, pow_mono, w64, Fits, rules}
 use native.Mathlib.Nat.{two-pow-succ}
-use Rattle.std.proofs.lemmas.Bool.{cases_lt, and_from, or_parts, le-leb, lt-ltb, lt-leb, leb-true, leb-false, eqb-true, cond-true, cond-false, both_ways}
+use Rattle.std.proofs.lemmas.Bool.{cases_lt, and_from, or_parts, le-leb, lt-ltb, lt-leb, leb-true, eqb-true, cond-true, both_ways}
 use Rattle.allocator.specs.Layouts.{pad}
 use Rattle.allocator.specs.Memory.{Block, Memory, taken_in, taken, popped, fits, full}
 use Rattle.allocator.specs.Answers.{Push, fitted, further, refused, Pop}

@@ -1,5 +1,4 @@
 -- What an arena and its handle stand for, by what their source stands for; and what ties each to its source.
-use Rattle.std.specs.Prelude.{ℕ}
 use Rattle.allocator.specs.Memory.{Memory}
 use Rattle.source.specs.Blocks.{Source}
 use Rattle.arena.specs.declared.arena.Arena.{Arena as Idle}

@@ -6,7 +6,7 @@ use Rattle.cards.specs.declared.Letter.{Letter}
 use Rattle.cards.specs.declared.Letter.TheVariants.{Byte, Half, Word, Double, Quad, Positions, Cues, Pop}
 use Rattle.cards.specs.Letters.{letter_of}
 use Rattle.cards.specs.Read.{Lines}
-use Rattle.cards.specs.Written.{letters, sizes, Sound}
+use Rattle.cards.specs.Written.{sizes, Sound}
 use Rattle.cards.proofs.Decimals.{same_number}
 
 -- the letter that a character writes, and a pop where it writes none

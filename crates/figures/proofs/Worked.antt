@@ -1,13 +1,12 @@
 -- The worked figures of an arena hold.
-use Rattle.std.proofs.Common.{◌≡◌, ℕ, ◌+◌, ◌-◌, ◌*◌, ◌<◌, ◌≤◌, max, true, false, List, [], ◌∷◌, length, drop, Ok, sym, refl, ap, ◌∙◌, subst, arith, length-drop}
+use Rattle.std.proofs.Common.{◌≡◌, ℕ, ◌+◌, ◌*◌, ◌≤◌, max, false, List, [], ◌∷◌, length, refl, ap, ◌∙◌, subst, arith, length-drop}
 use Rattle.std.proofs.lemmas.Bool.{lt-leb}
 use Rattle.allocator.specs.Memory.{fits}
 use Rattle.source.specs.Blocks.{Outstanding, Place, contents}
 use Rattle.arena.specs.Powers.{least_power_of, wanted}
 use Rattle.arena.specs.Rings.{opened, newest_size, room, total, newest}
 use Rattle.arena.specs.Meaning.{memory_of, Kept}
-use Rattle.arena.specs.Arenas.{Arena, shrunk}
-use Rattle.arena.specs.Calls.{Opens, Begun, Pushes}
+use Rattle.arena.specs.Arenas.{Arena}
 use Rattle.arena.proofs.Table.{least_power_of-least}
 use Rattle.figures.specs.Figures.{Makes, GrowsTo4096, ArenaFigures}
 

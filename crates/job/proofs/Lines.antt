@@ -1,11 +1,11 @@
 -- One entry more is run, and its line is added.
-use Rattle.std.proofs.Common.{◌≡◌, ℕ, suc, ◌+◌, ◌<◌, ◌≤◌, List, [], ◌∷◌, ◌++◌, length, get_or, take, sym, refl, ap, ◌∙◌, subst, arith, length-take}
+use Rattle.std.proofs.Common.{◌≡◌, ℕ, ◌+◌, ◌<◌, List, [], ◌∷◌, ◌++◌, length, get_or, take, sym, subst, arith, length-take}
 use Rattle.std.proofs.lemmas.List.{take_more}
 use Rattle.allocator.specs.declared.Allocator.{Ghosts}
 use Rattle.cards.specs.declared.Entry.{Entry}
 use Rattle.session.specs.Calls.{Event, event}
 use Rattle.session.specs.Calls as calls
-use Rattle.session.specs.Runs.{Run, visited}
+use Rattle.session.specs.Runs.{visited}
 use Rattle.session.specs.declared.session.Session.{Session}
 use Rattle.job.specs.Reports.{call_of, Shows, Told, Listed, none, next, Reported}
 use Rattle.job.specs.declared.listing.Line.{Line}

@@ -1,5 +1,5 @@
 -- What is printed of a run.
-use Rattle.std.specs.Prelude.{ℕ, List, [], ◌∷◌, ◌++◌, codes, decimal}
+use Rattle.std.specs.Prelude.{ℕ, List, ◌∷◌, ◌++◌, codes, decimal}
 use Rattle.allocator.specs.Stats.{min_capacity}
 use Rattle.cards.specs.Letters.{letter_of}
 use Rattle.session.specs.Faults.{refusal}

@@ -1,6 +1,6 @@
 -- Numbers as bytes, the least significant first, at every width.
 use Rattle.std.specs.Prelude.{◌≡◌, ℕ, zero, suc, ◌+◌, ◌*◌, ◌/◌, ◌%◌, ◌^◌, ◌<◌, List, [], ◌∷◌}
-use Rattle.std.proofs.Common.{mod-lt, lit<, pow_pos}
+use Rattle.std.proofs.Common.{mod-lt, pow_pos}
 
 abbrev pub AllBytes : List ℕ → Type 0
 AllBytes [] = Unit {0}

@@ -1,5 +1,5 @@
 -- Elements as their numbers, and the numbers as they are read from a buffer.
-use Rattle.std.proofs.Common.{◌≡◌, ℕ, suc, ◌+◌, ◌*◌, ◌%◌, ◌^◌, ◌<◌, ◌≤◌, List, [], ◌∷◌, get_or, take, drop, sym, refl, ap, ◌∙◌, subst, mod-eq_of_lt, arith, lit<, lit≤}
+use Rattle.std.proofs.Common.{◌≡◌, ℕ, suc, ◌+◌, ◌*◌, ◌%◌, ◌^◌, ◌<◌, ◌≤◌, List, get_or, take, drop, sym, ap, ◌∙◌, subst, mod-eq_of_lt, arith, lit≤}
 use native.Mathlib.Bridge.{le_prop}
 use Rattle.kind.specs.Bytes.{little_endian, number}
 use Rattle.kind.specs.declared.element.Byte.{Byte}

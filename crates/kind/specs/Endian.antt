@@ -1,5 +1,5 @@
 -- A number and its bytes, at every width.
-use Rattle.std.proofs.Common.{◌≡◌, ℕ, zero, suc, ◌+◌, ◌-◌, ◌*◌, ◌/◌, ◌%◌, ◌^◌, ◌<◌, ◌≤◌, List, [], ◌∷◌, ◌++◌, length, get_or, take, drop, sym, refl, ap, ◌∙◌, inl, inr, mod-lt, mod-eq_of_lt, pow-suc, arith, lit<, drop-cons}
+use Rattle.std.proofs.Common.{◌≡◌, ℕ, zero, suc, ◌+◌, ◌-◌, ◌*◌, ◌/◌, ◌%◌, ◌^◌, ◌<◌, ◌≤◌, List, [], ◌∷◌, ◌++◌, length, get_or, take, drop, refl, ap, ◌∙◌, inl, inr, mod-lt, pow-suc, arith, lit<, drop-cons}
 use native.Mathlib.Nat.{pow-zero, div-add-mod, div-div-eq-div-mul}
 use Rattle.std.proofs.lemmas.List.{drop_all, get_or_past, drop-take, take-take}
 use Rattle.std.proofs.lemmas.Bool.{cases_lt}

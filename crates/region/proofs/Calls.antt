@@ -1,15 +1,15 @@
 -- The calls of a region keep the rules of a source, and its own.
-use Rattle.std.proofs.Common.{◌≡◌, ℕ, zero, suc, ◌+◌, ◌-◌, ◌*◌, ◌%◌, ◌^◌, ◌<◌, ◌≤◌, Bool, true, false, cond, ltb, List, [], ◌∷◌, length, get_or, take, drop, set, Some, None, Ok, Err, Result, sym, refl, ap, ◌∙◌, subst, arith, length-drop, length-take}
+use Rattle.std.proofs.Common.{◌≡◌, ℕ, zero, suc, ◌+◌, ◌-◌, ◌%◌, ◌^◌, ◌<◌, ◌≤◌, true, false, ltb, List, ◌∷◌, length, get_or, take, drop, set, Some, None, Ok, Err, Result, sym, refl, ap, ◌∙◌, subst, arith, length-drop, length-take}
 use Rattle.std.proofs.lemmas.Bool.{both_ways, lt-ltb, le-ltb, cond-true, cond-false}
 use Rattle.std.proofs.lemmas.Bool.Decides.{nat_tests}
-use Rattle.source.specs.Answers.{Take, Grants, Give, Load, Store, sized}
-use Rattle.source.specs.Blocks.{Source, Outstanding, Place, Lawful, places, within, without, starts, having, granted}
+use Rattle.source.specs.Answers.{Take, Give, Load, Store, sized}
+use Rattle.source.specs.Blocks.{Outstanding, Place, Lawful, within, without, starts, having}
 use Rattle.source.specs.declared.fault.SourceFault.{SourceFault}
 use Rattle.source.specs.declared.fault.SourceFault.TheVariants as fault
 use Rattle.source.specs.declared.outcome.Outcome.{Outcome}
 use Rattle.source.specs.declared.outcome.Outcome.TheVariants as outcome
 use Rattle.region.specs.declared.slot.Slot.{Slot}
-use Rattle.region.specs.Places.{place, nth, chain, covers, begins, leaving, keeps, Lowest}
+use Rattle.region.specs.Places.{chain, covers, begins, leaving, keeps, Lowest}
 use Rattle.region.specs.Regions.{usable, cut_out, cuts_out, region, Answers, Cuts, stored_in, within-cuts, region-lawful}
 use Rattle.region.proofs.Searches.{chain-put, served}
 use Rattle.region.proofs.Windows.{stored-cuts, byte-cuts, leaving-cuts, begins-cuts, places-cuts}

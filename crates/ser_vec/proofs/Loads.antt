@@ -1,22 +1,21 @@
 -- Bytes loaded one by one are a run of the session, and are those of the memory.
-use Rattle.std.proofs.Common.{◌≡◌, ℕ, suc, ◌+◌, ◌<◌, ◌≤◌, ◌≢◌, ◌⊎◌, List, [], ◌∷◌, map, length, get_or, take, set, sym, refl, ap, ◌∙◌, subst, inl, inr, add-one, arith}
-use Rattle.std.specs.List.{range_with_len}
+use Rattle.std.proofs.Common.{◌≡◌, ℕ, ◌+◌, ◌<◌, ◌≤◌, ◌≢◌, List, ◌∷◌, length, get_or, take, set, sym, refl, ap, ◌∙◌, subst, inl, inr, add-one, arith}
 use Rattle.std.proofs.lemmas.List.FromFn.{get_or-map-range_with_len, fill_by_all}
 use Rattle.std.proofs.lemmas.List.{get_or-take, length-take-le, get_or-set_same, get_or-set_other}
 use Rattle.std.proofs.lemmas.Bool.{cases_lt}
-use Rattle.allocator.specs.Memory.{Memory, byte_at}
+use Rattle.allocator.specs.Memory.{byte_at}
 use Rattle.allocator.specs.declared.Allocator.{Ghosts}
 use Rattle.allocator.specs.declared.fault.Fault.TheVariants.{Address}
 use Rattle.kind.specs.declared.Kind as kinds
 use Rattle.session.specs.Ledger.{Span, Among}
-use Rattle.session.specs.Calls.{Event, event, load, byte, refused}
+use Rattle.session.specs.Calls.{event, load, byte, refused}
 use Rattle.session.specs.Steps.{State, Step, loads, refuses, load_not_live, load_outside, load_untaken}
 use Rattle.session.specs.Sessions.{state, Performs}
 use Rattle.session.specs.Runs.{Run, opened, visited}
 use Rattle.session.specs.declared.fault.Fault.{Fault}
 use Rattle.session.specs.declared.fault.Fault.TheVariants.{Allocator}
 use Rattle.session.specs.declared.session.Session.{Session}
-use Rattle.ser_vec.specs.Elements.{bytes_at, loads_of, loads_cut, Unique, Room, Loaded, LoadedCut}
+use Rattle.ser_vec.specs.Elements.{bytes_at, loads_of, Unique, Room, Loaded, LoadedCut}
 
 -- what a load that is answered says of the grant's one span
 load-done : {s : State} {grant offset v : ℕ} {s' : State} (span : Span) → Unique s.live → Among span s.live → span.grant ≡ grant → Step s (load grant offset) (byte v) s' →

@@ -1,5 +1,5 @@
 -- Bytes stored one by one are a run of the session, and stand where they were stored.
-use Rattle.std.proofs.Common.{◌≡◌, ℕ, zero, suc, ◌+◌, ◌*◌, ◌<◌, ◌≤◌, true, false, ◌≢◌, ◌⊎◌, List, [], ◌∷◌, get_or, sym, refl, ap, ◌∙◌, subst, inl, inr, add-one, arith}
+use Rattle.std.proofs.Common.{◌≡◌, ℕ, ◌+◌, ◌<◌, ◌≤◌, true, ◌≢◌, ◌⊎◌, List, ◌∷◌, get_or, sym, refl, ap, ◌∙◌, subst, inl, inr, add-one, arith}
 use Rattle.std.proofs.lemmas.Bool.{cases_lt, cases_Bool, both_ways}
 use Rattle.allocator.specs.Memory.{Memory, Lawful, within, taken, byte_at, stored}
 use Rattle.allocator.specs.declared.Allocator.{Ghosts}
@@ -14,7 +14,7 @@ use Rattle.session.specs.declared.fault.Fault.{Fault}
 use Rattle.session.specs.declared.fault.Fault.TheVariants.{Allocator}
 use Rattle.session.specs.declared.session.Session.{Session}
 use Rattle.session.proofs.Blocks.{byte_at-stored, byte_at-other}
-use Rattle.ser_vec.specs.Elements.{stores_of, stores_cut, Unique, Laid, Regular, Room, Stored, StoredCut}
+use Rattle.ser_vec.specs.Elements.{stores_of, Unique, Laid, Regular, Room, Stored, StoredCut}
 
 pub taken-within : (m : Memory) (at : ℕ) → Lawful m → taken m at ≡ true → within m at ≡ true
 taken-within m at lawful on = elim (cases_Bool (within m at)) [

@@ -1,5 +1,5 @@
 -- Each way through a call of a vector is as its rule says.
-use Rattle.std.proofs.Common.{◌≡◌, ℕ, suc, ◌+◌, ◌-◌, ◌*◌, ◌^◌, ◌<◌, ◌≤◌, Bool, true, false, ltb, ◌⊎◌, List, [], ◌∷◌, ◌++◌, map, length, get_or, is_some, Some, None, Ok, Err, Option, Result, sym, refl, ap, ◌∙◌, subst, inl, inr, mul-le-mul_right, suc-mul, add-mul, mul-le-mul, one-mul, arith}
+use Rattle.std.proofs.Common.{◌≡◌, ℕ, ◌+◌, ◌-◌, ◌*◌, ◌^◌, ◌<◌, ◌≤◌, Bool, true, false, ltb, List, [], ◌∷◌, ◌++◌, map, length, is_some, Some, None, Ok, Err, Option, Result, sym, refl, ap, ◌∙◌, subst, inl, inr, mul-le-mul_right, suc-mul, add-mul, mul-le-mul, arith}
 use Rattle.std.specs.List.{range_with_len}
 use Rattle.std.proofs.lemmas.List.FromFn.{get_or-map-range_with_len, map-range_with_len_more}
 use Rattle.std.proofs.lemmas.Bool.{ltb-true, ltb-false}
@@ -13,12 +13,12 @@ use Rattle.session.specs.Records.{Held, NotAmong}
 use Rattle.session.specs.Steps.{State, Step, serves}
 use Rattle.session.specs.Sessions.{state, Performs}
 use Rattle.session.specs.Runs.{Run, opened, visited}
-use Rattle.session.specs.declared.fault.Fault.TheVariants.{NotLive, Outside, Allocator}
+use Rattle.session.specs.declared.fault.Fault.TheVariants.{NotLive, Allocator}
 use Rattle.session.specs.declared.fault.Fault as session
 use Rattle.session.specs.declared.grant.Grant.{Grant}
 use Rattle.session.specs.declared.session.Session.{Session}
-use Rattle.ser_vec.specs.Elements.{bytes_at, element_at, packings, stores_of, stores_cut, loads_of, loads_cut, Unique, Regular, Room, Stored, StoredCut, Loaded, LoadedCut, Reads, Writes}
-use Rattle.ser_vec.specs.Vectors.{Vector, new_vector, resized, number_of, Placed, Lives, elements, Rule, Guarded, not_live, live, Extending, extended, extend_cut, Setting, replaced, set_cut, Getting, got, get_cut, Popping, popped, pop_cut, Closing, closed, stays, Opening, placed, unplaced, Went, Acts}
+use Rattle.ser_vec.specs.Elements.{bytes_at, element_at, packings, stores_of, stores_cut, loads_of, loads_cut, Unique, Regular, Room, Stored, StoredCut, Loaded, LoadedCut}
+use Rattle.ser_vec.specs.Vectors.{Vector, new_vector, resized, number_of, Placed, Lives, Rule, Guarded, not_live, live, Extending, extended, extend_cut, Setting, replaced, set_cut, Getting, got, get_cut, Popping, popped, pop_cut, Closing, closed, stays, Opening, placed, unplaced, Went, Acts}
 use Rattle.ser_vec.specs.declared.fault.Fault.{Fault}
 use Rattle.ser_vec.specs.declared.fault.Fault.TheVariants.{Session as Nested}
 use Rattle.ser_vec.proofs.Lists.{elements-kept, elements-extended, elements-replaced, others-kept}

@@ -1,7 +1,7 @@
 -- What a block added in front, a pop and a store leave of the blocks and of their bytes.
-use Rattle.std.proofs.Common.{◌≡◌, ℕ, suc, ◌+◌, ◌-◌, ◌^◌, ◌<◌, ◌≤◌, max, Bool, true, false, cond, ◌||◌, ◌≢◌, ◌⊎◌, List, [], ◌∷◌, length, get_or, set, sym, refl, ap, ◌∙◌, subst, inl, inr, arith, length-set, get_or-set_other, get_or-set_same}
+use Rattle.std.proofs.Common.{◌≡◌, ℕ, suc, ◌+◌, ◌-◌, ◌^◌, ◌<◌, ◌≤◌, max, true, false, ◌||◌, ◌≢◌, [], ◌∷◌, length, get_or, sym, refl, ap, ◌∙◌, inl, inr, arith, length-set, get_or-set_other, get_or-set_same}
 use Rattle.std.proofs.lemmas.Bool.{cases_lt, cases_Bool, both_ways, or_parts, or_cases, cond-true, cond-false}
-use Rattle.allocator.specs.Memory.{Block, Memory, Lawful, Apart, AllFull, spans, inside, taken_in, within, taken, full, byte_at, popped, marked, stored, written}
+use Rattle.allocator.specs.Memory.{Block, Memory, Lawful, Apart, AllFull, spans, inside, taken_in, within, taken, full, byte_at, popped, stored, written}
 use Rattle.allocator.proofs.Spans.{spans-true, spans-from, spans-past, taken-newest, taken-older, untaken-both, within-newest, within-older}
 use Rattle.session.specs.Ledger.{Span}
 use Rattle.session.specs.Laws.{InOneBlock, Separate}

@@ -1,5 +1,5 @@
 -- Live spans by their grants, and the stores through them.
-use Rattle.std.proofs.Common.{◌≡◌, ℕ, suc, ◌<◌, ◌≤◌, ◌⊎◌, List, [], ◌∷◌, sym, ap, ◌∙◌, subst, inl, inr, arith}
+use Rattle.std.proofs.Common.{◌≡◌, ℕ, suc, ◌<◌, ◌≤◌, List, [], ◌∷◌, sym, ap, ◌∙◌, subst, inl, inr, arith}
 use Rattle.session.specs.Ledger.{Span, Note, Among, LastStored}
 use Rattle.session.specs.Laws.{Separate, Each, AllSeparate}
 

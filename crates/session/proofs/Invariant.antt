@@ -1,17 +1,17 @@
 -- What holds at each moment of a trace, and that each call keeps it.
-use Rattle.std.proofs.Common.{◌≡◌, ℕ, suc, ◌+◌, ◌-◌, ◌*◌, ◌%◌, ◌<◌, ◌≤◌, max, true, false, cond, ltb, ◌≢◌, ◌⊎◌, List, [], ◌∷◌, length, sym, refl, ap, ◌∙◌, subst, ap₂, inl, inr, arith}
-use Rattle.std.proofs.lemmas.Bool.{cases_lt, cases_Bool, cases_eq, both_ways, leb-true, lt-ltb, le-ltb, cond-true, cond-false}
+use Rattle.std.proofs.Common.{◌≡◌, ℕ, suc, ◌+◌, ◌-◌, ◌%◌, ◌<◌, ◌≤◌, max, true, false, cond, ltb, ◌≢◌, List, [], ◌∷◌, length, sym, refl, ap, ◌∙◌, subst, ap₂, inl, inr, arith}
+use Rattle.std.proofs.lemmas.Bool.{cases_lt, cases_Bool, cases_eq, both_ways, lt-ltb, le-ltb, cond-true, cond-false}
 use Rattle.allocator.specs.Layouts as layouts
 use Rattle.allocator.specs.Layouts.{pad, Sized, Aligning}
-use Rattle.allocator.specs.Memory.{Block, Memory, Lawful, top, taken_in, within, byte_at, fits, pushed, placed, full, popped, stored, written}
+use Rattle.allocator.specs.Memory.{Block, Memory, Lawful, taken_in, within, byte_at, fits, pushed, placed, full, popped, stored, written}
 use Rattle.allocator.proofs.Powers.{aligning-some}
 use Rattle.allocator.proofs.Pads.{pad-aligns}
 use Rattle.allocator.proofs.Spans.{spans-from, taken-inside, within-full, byte_at-full}
 use Rattle.session.specs.Ledger.{Span, new_span, Note, Ledger, adds, removes, notes, fed, empty, bytes, all_but_newest, Among, LastStored}
 use Rattle.session.specs.Steps.{State, new_state, fresh}
-use Rattle.session.specs.Laws.{Aligned, InOneBlock, Separate, Each, AllSeparate, untaken, capacity}
+use Rattle.session.specs.Laws.{Aligned, Each, AllSeparate, untaken, capacity}
 use Rattle.session.proofs.Rounding.{up, up_above, up-within}
-use Rattle.session.proofs.Blocks.{inside-from, within-from, byte_at-further, length-full, full-in, length-popped, byte_at-popped, length-written, stored-in, length-stored, byte_at-stored, byte_at-other}
+use Rattle.session.proofs.Blocks.{within-from, byte_at-further, length-full, full-in, length-popped, byte_at-popped, length-written, stored-in, length-stored, byte_at-stored, byte_at-other}
 use Rattle.session.proofs.Stack.{Lies, Tight, bottom, atop, tight-first, tight-low, tight-raised, tight-moved, tight-lies, tight-separate, Taken, tight-taken}
 use Rattle.session.proofs.Grants.{Numbered, Early, each_at, each_map, numbered_below, numbered_more, unique, separate-at, early-last, early-more}
 

@@ -1,15 +1,13 @@
 -- A job is a run, so the law of sessions is the law of jobs.
-use Rattle.std.proofs.Common.{◌≡◌, List, [], ◌∷◌, ◌++◌, sym, refl, ap, ◌∙◌}
+use Rattle.std.proofs.Common.{◌≡◌, List, ◌++◌, sym, ap, ◌∙◌}
 use Rattle.allocator.specs.Memory.{Memory}
 use Rattle.allocator.specs.declared.Allocator.{Ghosts}
-use Rattle.allocator.specs.declared.fault.Fault.TheVariants.{Address}
-use Rattle.session.specs.Ledger.{Span, Among}
-use Rattle.session.specs.Calls.{Event, event, ledger_of}
+use Rattle.session.specs.Calls.{Event, ledger_of}
 use Rattle.session.specs.Steps.{State, fresh}
 use Rattle.session.specs.Sessions.{state}
-use Rattle.session.specs.Laws.{Separation, Need}
+use Rattle.session.specs.Laws.{Separation}
 use Rattle.session.specs.Runs.{Run, opened, visited}
-use Rattle.session.specs.Jobs.{Regular, Goes, Job, begun, calls, builds, Holds, JobLaw}
+use Rattle.session.specs.Jobs.{Regular, Job, begun, calls, builds, JobLaw}
 use Rattle.session.specs.declared.session.Session.{Session}
 use Rattle.session.proofs.Laws.{run_sound, run-after, session_law}
 

@@ -1,19 +1,18 @@
 -- The bytes of a live span are as they were for as long as no call stores through its grant.
-use Rattle.std.proofs.Common.{◌≡◌, ℕ, suc, ◌+◌, ◌<◌, ◌≤◌, true, ◌⊎◌, List, [], ◌∷◌, sym, refl, ap, ◌∙◌, subst, inl, inr, arith}
+use Rattle.std.proofs.Common.{◌≡◌, ℕ, suc, ◌+◌, ◌<◌, ◌≤◌, List, sym, refl, ap, ◌∙◌, subst, inl, inr, arith}
 use Rattle.std.proofs.lemmas.Bool.{cases_eq}
-use Rattle.allocator.specs.Memory.{within, byte_at}
+use Rattle.allocator.specs.Memory.{byte_at}
 use Rattle.allocator.specs.declared.Allocator.{Ghosts}
 use Rattle.session.specs.Ledger.{Span, Among}
 use Rattle.session.specs.Calls.{Call, store, Answer, done, Event, ledger_of}
 use Rattle.session.specs.Steps.{State, Step, refuses, serves, pops, pops_newest, loads, stores}
 use Rattle.session.specs.Sessions.{state}
-use Rattle.session.specs.Laws.{Separation, StoresTo, InOneBlock}
+use Rattle.session.specs.Laws.{InOneBlock}
 use Rattle.session.specs.Runs.{Run, opened, visited}
 use Rattle.session.specs.Jobs.{Regular, Unstored}
 use Rattle.session.specs.declared.session.Session.{Session}
 use Rattle.session.proofs.Blocks.{within-from}
 use Rattle.session.proofs.Grants.{each_at, numbered_below, separate-at}
-use Rattle.session.proofs.Invariant.{Inv}
 use Rattle.session.proofs.Jobs.{regular-after, regular-sound, regular-separation}
 use Rattle.session.proofs.Laws.{run-trace}
 use Rattle.session.proofs.Traces.{run-kept}

@@ -1,5 +1,5 @@
 -- The law of sessions, from the law of their traces.
-use Rattle.std.proofs.Common.{◌≡◌, List, [], ◌∷◌, ◌++◌, sym, subst}
+use Rattle.std.proofs.Common.{◌≡◌, List, [], ◌++◌, sym, subst}
 use Rattle.allocator.specs.Memory.{Memory, Lawful}
 use Rattle.allocator.specs.declared.Allocator.{Ghosts}
 use Rattle.session.specs.Calls.{Event}

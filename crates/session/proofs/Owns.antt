@@ -1,5 +1,5 @@
 -- What the allocator's own rules say of each way through a call.
-use Rattle.std.proofs.Common.{◌≡◌, ℕ, ◌-◌, ◌<◌, ◌≤◌, ◌⊎◌, List, [], ◌∷◌, length, get_or, Ok, Err, sym, refl, ap, subst, inl, inr}
+use Rattle.std.proofs.Common.{◌≡◌, ℕ, ◌-◌, ◌<◌, ◌≤◌, ◌⊎◌, List, length, get_or, Ok, Err, sym, refl, ap, subst, inl, inr}
 use Rattle.allocator.specs.Faults.{NoLayout}
 use Rattle.allocator.specs.declared.Allocator.{Ghosts}
 use Rattle.allocator.specs.declared.fault.Cause.{Cause}
@@ -8,7 +8,7 @@ use Rattle.allocator.specs.declared.fault.Fault.TheVariants.{Size, Alignment, Do
 use Rattle.session.specs.Ledger.{Span}
 use Rattle.session.specs.Calls.{Call, push, pop, pop_newest, load, store, granted, refused}
 use Rattle.session.specs.Steps.{State, Refuses, Step, refuses}
-use Rattle.session.specs.Records.{recorded, live}
+use Rattle.session.specs.Records.{live}
 use Rattle.session.specs.Sessions.{OwnFault, OwnUnserved, OwnPush, OwnPopped, Own}
 use Rattle.session.specs.declared.fault.Fault as session
 use Rattle.session.specs.declared.fault.Fault.TheVariants.{NotNewest, NotLive, Full, Outside, Allocator}

@@ -1,5 +1,5 @@
 -- How a call is answered at a moment of a run: what the session does not itself refuse is accepted.
-use Rattle.std.proofs.Common.{◌≡◌, ℕ, suc, ◌+◌, ◌<◌, ◌≤◌, ◌⊎◌, List, [], ◌∷◌, sym, refl, ap, ◌∙◌, subst, inl, inr, arith}
+use Rattle.std.proofs.Common.{◌≡◌, ℕ, suc, ◌+◌, ◌<◌, ◌⊎◌, List, ◌∷◌, sym, refl, ap, ◌∙◌, subst, inl, inr, arith}
 use Rattle.allocator.specs.Layouts.{Sized, Aligning}
 use Rattle.allocator.specs.Memory.{byte_at, popped, stored}
 use Rattle.allocator.specs.declared.fault.Cause.{Cause}

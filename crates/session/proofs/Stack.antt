@@ -1,5 +1,5 @@
 -- How the live spans lie in the blocks: those of the newest block close above one another, the others in older blocks.
-use Rattle.std.proofs.Common.{◌≡◌, ℕ, suc, ◌+◌, ◌-◌, ◌*◌, ◌<◌, ◌≤◌, true, ◌⊎◌, List, [], ◌∷◌, length, inl, inr, le_refl, suc-mul, arith}
+use Rattle.std.proofs.Common.{◌≡◌, ℕ, suc, ◌+◌, ◌-◌, ◌*◌, ◌<◌, ◌≤◌, true, ◌⊎◌, List, ◌∷◌, length, inl, inr, le_refl, suc-mul, arith}
 use Rattle.allocator.specs.Layouts.{Aligning}
 use Rattle.allocator.specs.Memory.{Block, Memory, Apart, AllFull, taken}
 use Rattle.allocator.proofs.Spans.{spans-from, taken-newest, taken-older}

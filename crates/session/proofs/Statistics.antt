@@ -1,13 +1,13 @@
 -- Each call keeps the statistics of a tracker in step with the ledger.
-use Rattle.std.proofs.Common.{◌≡◌, ℕ, suc, ◌+◌, ◌-◌, ◌*◌, ◌<◌, ◌≤◌, min, max, ◌⊎◌, List, [], ◌∷◌, length, sym, refl, ap, ◌∙◌, subst, ap₂, inl, inr, mul-le-mul, arith}
+use Rattle.std.proofs.Common.{◌≡◌, ℕ, suc, ◌+◌, ◌-◌, ◌*◌, ◌<◌, ◌≤◌, List, [], ◌∷◌, length, sym, refl, ap, ◌∙◌, subst, ap₂, inl, inr, mul-le-mul, arith}
 use Rattle.std.proofs.lemmas.Bool.{cases_lt}
 use Rattle.allocator.specs.Memory.{Memory}
-use Rattle.allocator.specs.Stats.{unused, counted, discounted, min_capacity}
+use Rattle.allocator.specs.Stats.{unused, counted, discounted}
 use Rattle.allocator.specs.declared.Allocator.{Ghosts}
 use Rattle.allocator.specs.declared.AllocationStats.{AllocationStats}
 use Rattle.allocator.specs.declared.AllocationTracker.{AllocationTracker}
 use Rattle.allocator.specs.declared.fault.Fault.TheVariants.{Address}
-use Rattle.session.specs.Ledger.{Span, new_span, Ledger, adds, removes, notes, fed, bytes, need, empty, all_but_newest}
+use Rattle.session.specs.Ledger.{Span, new_span, Ledger, adds, removes, notes, fed, bytes, empty, all_but_newest}
 use Rattle.session.specs.Calls.{Call, Answer, refused, entry, Event, ledger_of}
 use Rattle.session.specs.Steps.{State, fresh, Step, refuses, serves, pops, pops_newest, loads, stores}
 use Rattle.session.specs.Sessions.{state, Own, OwnPopped}

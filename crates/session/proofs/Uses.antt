@@ -1,5 +1,5 @@
 -- A session over an allocator that grows as an arena does goes on with the arena's life.
-use Rattle.std.proofs.Common.{◌≡◌, ℕ, suc, ◌+◌, ◌<◌, max, ◌⊎◌, List, [], ◌∷◌, length, Ok, Err, sym, refl, ap, ◌∙◌, subst, inl, inr, arith}
+use Rattle.std.proofs.Common.{◌≡◌, ℕ, ◌+◌, ◌<◌, max, List, [], ◌∷◌, length, Ok, Err, sym, refl, ap, ◌∙◌, subst, inl, inr, arith}
 use Rattle.allocator.specs.Memory.{Memory, Lawful}
 use Rattle.allocator.specs.declared.Allocator.{Ghosts}
 use Rattle.allocator.specs.declared.fault.Fault.TheVariants.{DoesNotFit, Address}

@@ -1,7 +1,7 @@
 -- A round trip through a session, call by call.
-use Rattle.std.proofs.Common.{◌≡◌, ℕ, ◌⊎◌, List, [], ◌∷◌, Ok, Err, sym, refl, ap, ◌∙◌, subst, inl, inr, arith}
+use Rattle.std.proofs.Common.{◌≡◌, ℕ, List, ◌∷◌, Ok, Err, sym, refl, ap, ◌∙◌, subst, inl, inr, arith}
 use Rattle.allocator.specs.declared.Allocator.{Ghosts}
-use Rattle.session.specs.Ledger.{Span, new_span, Among}
+use Rattle.session.specs.Ledger.{new_span, Among}
 use Rattle.session.specs.Calls.{Event, event, ledger_of, push, pop, load, store, Answer, granted, done, byte, refused}
 use Rattle.session.specs.Steps.{State}
 use Rattle.session.specs.Sessions.{state, Performs}

@@ -1,12 +1,11 @@
 -- The worked runs, call by call.
-use Rattle.std.proofs.Common.{◌≡◌, ℕ, suc, ◌+◌, ◌^◌, ◌<◌, ◌≤◌, true, false, ◌⊎◌, List, [], ◌∷◌, length, refl, ap, inl, inr, arith}
+use Rattle.std.proofs.Common.{◌≡◌, ℕ, suc, ◌+◌, ◌^◌, ◌<◌, ◌≤◌, true, false, List, [], ◌∷◌, length, refl, ap, inl, inr, arith}
 use native.Mathlib.Nat.{pow-le-pow_right}
 use Rattle.std.proofs.lemmas.Bool.{cases_lt, or_from}
 use Rattle.allocator.specs.Layouts.{Sized, Aligning}
 use Rattle.allocator.specs.Memory.{Memory, Lawful, within, inside, fits, placed, pushed}
 use Rattle.allocator.specs.Answers as allocators
 use Rattle.allocator.specs.declared.fault.Cause.TheVariants.{FixedBuffer}
-use Rattle.allocator.specs.declared.layout.Layout.{Layout}
 use Rattle.allocator.proofs.Powers.{divides-from-aligning, aligning-some}
 use Rattle.allocator.proofs.Spans.{spans-true, spans-past}
 use Rattle.session.specs.Ledger.{Span, new_span, Among}

@@ -1,6 +1,6 @@
 -- The calls of a session, their answers, and what the ledger is fed of them.
 use Rattle.std.specs.Prelude.{ℕ, List, [], ◌∷◌}
-use Rattle.session.specs.Ledger.{Note, Entry, adds, removes, notes, nothing, Ledger, empty, fed, new_span}
+use Rattle.session.specs.Ledger.{Entry, adds, removes, notes, nothing, Ledger, empty, fed, new_span}
 use Rattle.session.specs.declared.fault.Fault.{Fault}
 
 -- a grant is named by its number

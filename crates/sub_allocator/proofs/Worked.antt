@@ -1,12 +1,10 @@
 -- The worked figures hold.
-use Rattle.std.proofs.Common.{◌≡◌, ℕ, ◌+◌, ◌-◌, ◌*◌, ◌%◌, ◌^◌, ◌<◌, ◌≤◌, min, true, false, leb, List, [], ◌∷◌, length, take, Ok, Err, Result, sym, refl, ap, ◌∙◌, subst, arith, length-take}
-use Rattle.std.proofs.lemmas.Bool.{both_ways, le-leb, leb-true}
-use Rattle.allocator.specs.Layouts.{PowerOfTwo, Aligning}
-use Rattle.allocator.specs.Memory.{Memory, fits, pushed, placed}
-use Rattle.allocator.specs.Answers.{Push, fitted, further, refused, Pop}
-use Rattle.sub_allocator.specs.Buffers.{room, fixed, Alone}
+use Rattle.std.proofs.Common.{◌≡◌, ℕ, ◌-◌, ◌%◌, ◌≤◌, min, true, List, [], ◌∷◌, length, take, Ok, Err, refl, ap, subst, arith, length-take}
+use Rattle.std.proofs.lemmas.Bool.{le-leb, leb-true}
+use Rattle.allocator.specs.Memory.{Memory, fits}
+use Rattle.allocator.specs.Answers.{Push, Pop}
+use Rattle.sub_allocator.specs.Buffers.{room, fixed}
 use Rattle.sub_allocator.specs.Figures.{AtOne, LandsAtEight, BufferFigures}
-use Rattle.allocator.specs.declared.fault.Fault.{Fault}
 use Rattle.allocator.specs.declared.fault.Fault.TheVariants.{DoesNotFit}
 use Rattle.allocator.specs.declared.fault.Cause.TheVariants.{FixedBuffer}
 use Rattle.allocator.proofs.Laws.{push-fits}

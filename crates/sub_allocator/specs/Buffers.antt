@@ -1,5 +1,5 @@
 -- What a fixed buffer stands for: one block, of its first 2^47 bytes at most, at an address that is taken modulo 2^47.
-use Rattle.std.specs.Prelude.{◌≡◌, ℕ, ◌+◌, ◌-◌, ◌%◌, ◌^◌, ◌<◌, ◌≤◌, min, true, false, cond, List, [], ◌∷◌, length, take, Some, None, Option, Result, MatchResult, slice_set, refl}
+use Rattle.std.specs.Prelude.{◌≡◌, ℕ, ◌-◌, ◌%◌, ◌<◌, min, true, cond, List, [], ◌∷◌, length, take, Some, None, Option, Result, MatchResult, slice_set, refl}
 use Rattle.std.proofs.Common.{mod-lt, arith, length-take}
 use Rattle.allocator.specs.Memory.{Memory, Lawful, taken, fits}
 use Rattle.allocator.specs.declared.fault.Fault.{Fault}

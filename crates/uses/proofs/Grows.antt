@@ -1,5 +1,5 @@
 -- A handle over every source grows as an arena does, and so does a tracker of it.
-use Rattle.std.proofs.Common.{◌≡◌, ℕ, ◌+◌, ◌*◌, ◌^◌, max, Bool, true, false, ◌⊎◌, List, ◌∷◌, length, Ok, Err, Result, sym, refl, ap, ◌∙◌, inl, inr, arith}
+use Rattle.std.proofs.Common.{◌≡◌, ℕ, ◌+◌, ◌*◌, ◌^◌, max, Bool, true, ◌⊎◌, ◌∷◌, length, Ok, Err, Result, sym, refl, ap, ◌∙◌, inl, inr, arith}
 use Rattle.std.proofs.lemmas.Bool.{cases_Bool, cases_lt}
 use Rattle.allocator.specs.declared.fault.Fault.{Fault}
 use Rattle.source.specs.Blocks.{Place}

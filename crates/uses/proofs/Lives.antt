@@ -1,13 +1,12 @@
 -- The growth law at each moment of an arena's life.
 use Rattle.std.proofs.Common.{◌≡◌, ℕ, ◌<◌, List, [], sym, refl, subst}
-use Rattle.allocator.specs.declared.AllocationTracker.{AllocationTracker}
 use Rattle.allocator.specs.declared.Allocator as allocators
 use Rattle.source.specs.declared.BlockSource.{Ghosts}
 use Rattle.arena.specs.Rings.{newest_size}
 use Rattle.arena.specs.Meaning.{memory_of}
 use Rattle.arena.specs.Arenas as arenas
 use Rattle.arena.specs.Arenas.{blocks_of}
-use Rattle.arena.specs.Views.{idle_of, handle_of, memory_at, IdleSound, HandleSound}
+use Rattle.arena.specs.Views.{memory_at, IdleSound, HandleSound}
 use Rattle.arena.specs.declared.arena.Arena.{Arena}
 use Rattle.arena.specs.declared.arena.ArenaHandle.{ArenaHandle}
 use Rattle.session.specs.Calls.{Event}

@@ -1,5 +1,5 @@
 -- An opening and its refusals, from what an arena's calls promise.
-use Rattle.std.proofs.Common.{◌≡◌, ℕ, suc, ◌+◌, ◌<◌, ◌≤◌, true, false, List, [], ◌∷◌, length, Ok, Err, Result, sym, refl, ap, ◌∙◌, subst, inl, inr, arith}
+use Rattle.std.proofs.Common.{◌≡◌, ℕ, ◌+◌, ◌<◌, ◌≤◌, true, false, List, [], ◌∷◌, length, Ok, Err, Result, sym, refl, ap, ◌∙◌, subst, inl, inr, arith}
 use Rattle.std.proofs.lemmas.Bool.{cases_lt, lt-leb}
 use Rattle.source.specs.Blocks.{Place, refused}
 use Rattle.source.specs.declared.BlockSource.{Ghosts}
@@ -14,7 +14,6 @@ use Rattle.arena.specs.Keeps.{rise}
 use Rattle.arena.specs.Views.{idle_of, IdleSound}
 use Rattle.arena.specs.declared.arena.Arena.{Arena}
 use Rattle.arena.specs.declared.fault.ArenaFault.{ArenaFault}
-use Rattle.arena.specs.declared.fault.ArenaFault.TheVariants.{Capacity, NoBlock}
 use Rattle.arena.proofs.Steps.{opens-asks, nil-opened}
 use Rattle.uses.specs.Openings.{Opened, Unopened}
 use Rattle.uses.specs.Lives.{ArenaLaw}

@@ -1,5 +1,5 @@
 -- What an arena's rest and its use have of the growth law, by its blocks alone.
-use Rattle.std.proofs.Common.{◌≡◌, ℕ, ◌+◌, ◌<◌, true, eqb, List, [], ◌∷◌, length, drop, sym, refl, ap, ◌∙◌, subst, arith}
+use Rattle.std.proofs.Common.{◌≡◌, ℕ, ◌+◌, ◌<◌, true, List, [], ◌∷◌, drop, sym, refl, ap, ◌∙◌, subst, arith}
 use Rattle.std.proofs.lemmas.Bool.{eqb-true}
 use Rattle.allocator.specs.Memory.{Memory}
 use Rattle.source.specs.Blocks.{Source, Outstanding, Place, Lawful}

@@ -1,4 +1,4 @@
-use Rattle.std.proofs.Common.{◌≡◌, sym, ap, ◌∙◌, subst}
+use Rattle.std.proofs.Common.{sym, ap, ◌∙◌, subst}
 use Rattle.arena.specs.Views.{memory_at}
 use Rattle.arena.specs.declared.arena.ArenaHandle.{ArenaHandle}
 use Rattle.session.specs.Steps.{fresh}

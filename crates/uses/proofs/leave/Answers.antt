@@ -1,4 +1,4 @@
-use Rattle.std.proofs.Common.{◌≡◌, subst}
+use Rattle.std.proofs.Common.{subst}
 use Rattle.arena.specs.declared.arena.ArenaHandle.{ArenaHandle}
 use Rattle.uses.specs.Lives.{Released, releases}
 use Rattle.uses.proofs.leave.Goals as goal

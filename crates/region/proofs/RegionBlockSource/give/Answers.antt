@@ -1,4 +1,4 @@
-use Rattle.std.proofs.Common.{◌≡◌, List, length, vec_items, refl, ap, ◌∙◌, arith}
+use Rattle.std.proofs.Common.{List, length, vec_items, refl, ap, ◌∙◌, arith}
 use Rattle.source.specs.Blocks.{Place}
 use Rattle.region.specs.Places.{keeps, chain}
 use Rattle.region.specs.Regions.{usable}

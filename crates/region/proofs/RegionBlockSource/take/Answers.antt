@@ -1,4 +1,4 @@
-use Rattle.std.proofs.Common.{◌≡◌, ◌<◌, length, vec_items, refl, arith, rules}
+use Rattle.std.proofs.Common.{◌≡◌, length, vec_items, refl, arith, rules}
 use Rattle.region.specs.Regions.{usable}
 use Rattle.region.proofs.Searches.{served}
 use Rattle.region.proofs.Calls.{refuses, grants, chooses-full, chooses_none, chooses_lowest}

@@ -1,5 +1,5 @@
 -- Each turn loads the next byte of the element.
-use Rattle.std.proofs.Common.{◌≡◌, ℕ, ◌+◌, ◌<◌, ◌≤◌, length, sym, refl, ap, ◌∙◌, subst, arith, length-set}
+use Rattle.std.proofs.Common.{◌≡◌, ◌<◌, ◌≤◌, length, refl, ◌∙◌, subst, arith, length-set}
 use Rattle.std.proofs.lemmas.Result.{err_from_is_err_and}
 use Rattle.ser_vec.proofs.Loads.{Read, read_none, read_more, read-cut, read_all}
 use Rattle.ser_vec.proofs.element.read.Goals as goal

@@ -1,5 +1,5 @@
 -- Each turn stores the next byte of the packings.
-use Rattle.std.proofs.Common.{◌≡◌, ℕ, ◌+◌, ◌*◌, ◌/◌, ◌%◌, ◌<◌, ◌≤◌, length, get_or, sym, ap, ◌∙◌, subst, div-lt_iff_lt-mul, mul-le-mul, arith}
+use Rattle.std.proofs.Common.{◌≡◌, ◌*◌, ◌<◌, ◌≤◌, length, get_or, subst, arith}
 use Rattle.std.proofs.lemmas.Result.{err_from_is_err_and}
 use Rattle.ser_vec.specs.Elements.{packings, Stored}
 use Rattle.ser_vec.proofs.Packings.{byte-value, below_length}

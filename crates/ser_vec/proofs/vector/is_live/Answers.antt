@@ -1,5 +1,5 @@
 -- The session has the span of the grant on record, or another, or none.
-use Rattle.std.proofs.Common.{◌≡◌, ◌*◌, sym, ◌∙◌, subst}
+use Rattle.std.proofs.Common.{◌*◌, sym, ◌∙◌, subst}
 use Rattle.std.proofs.lemmas.Bool.{false≢true, eqb-true, eqb-false}
 use Rattle.session.specs.Sessions.{state}
 use Rattle.ser_vec.specs.Vectors.{Placed}

@@ -1,4 +1,4 @@
-use Rattle.std.proofs.Common.{◌≡◌, ◌+◌, ◌-◌, ◌<◌, ◌≤◌, refl, ap, arith}
+use Rattle.std.proofs.Common.{◌+◌, ◌-◌, ◌<◌, ◌≤◌, refl, ap, arith}
 use Rattle.sub_allocator.specs.Buffers.{room, fixed-lawful}
 use Rattle.sub_allocator.proofs.Fixed.{unfit, fit, served}
 use Rattle.allocator.proofs.Laws.{push-served}

@@ -1,5 +1,4 @@
-use Rattle.std.proofs.Common.{ℕ, arith}
-use Rattle.allocator.specs.Layouts.{Aligning}
+use Rattle.std.proofs.Common.{arith}
 use Rattle.allocator.proofs.Powers.{divides-from-aligning, aligning-some}
 use Rattle.allocator.proofs.layout.Layout.from_size_align.Goals as goal
 

@@ -1,5 +1,5 @@
 -- The further block is one of the source's, beside the others.
-use Rattle.std.proofs.Common.{◌≡◌, ◌+◌, ◌≤◌, true, List, sym, refl, subst}
+use Rattle.std.proofs.Common.{◌≡◌, ◌+◌, true, List, sym, refl, subst}
 use Rattle.std.proofs.lemmas.Result.{err_from_is_err_and}
 use Rattle.std.proofs.lemmas.Bool.{both_ways}
 use Rattle.source.specs.Blocks.{Outstanding, Place}

@@ -1,5 +1,5 @@
 -- A byte of a cue is one of its sample number, its length or its tag.
-use Rattle.std.proofs.Common.{◌≡◌, ◌-◌, ◌<◌, ◌++◌, get_or, sym, refl, ap, ◌∙◌, arith}
+use Rattle.std.proofs.Common.{◌-◌, ◌<◌, ◌++◌, get_or, sym, refl, ap, ◌∙◌, arith}
 use Rattle.std.proofs.lemmas.List.{get_or_append_left, get_or-append_right}
 use Rattle.kind.specs.Bytes.{little_endian}
 use Rattle.kind.specs.Endian.{le4, le8}

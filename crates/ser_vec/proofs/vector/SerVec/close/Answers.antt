@@ -1,5 +1,5 @@
 -- A live vector gives its span back, or is handed back.
-use Rattle.std.proofs.Common.{◌≡◌, Some, sym, refl, ap, ◌∙◌}
+use Rattle.std.proofs.Common.{Some, sym, refl, ap, ◌∙◌}
 use Rattle.ser_vec.specs.Vectors.{plain, new_vector, spanless}
 use Rattle.ser_vec.proofs.Vectors.{dead, alone, lives-as, bare-capacity, some-capacity, closing, closing-refused}
 use Rattle.ser_vec.proofs.vector.SerVec.close.Goals as goal

@@ -1,8 +1,8 @@
 -- Elements are appended to a live vector that has room for them.
-use Rattle.std.proofs.Common.{◌≡◌, ℕ, ◌+◌, ◌-◌, ◌*◌, ◌^◌, ◌<◌, ◌≤◌, length, sym, refl, ap, ◌∙◌, mul-le-mul, arith}
+use Rattle.std.proofs.Common.{◌≡◌, ◌-◌, ◌≤◌, length, arith}
 use Rattle.std.proofs.lemmas.Result.{err_from_is_err_and}
 use Rattle.std.proofs.lemmas.List.{nil_from_length}
-use Rattle.ser_vec.specs.Vectors.{plain, Lives, full, nothing}
+use Rattle.ser_vec.specs.Vectors.{plain, full, nothing}
 use Rattle.ser_vec.proofs.Vectors.{dead, alone, lives-as, extending-by, extending-cut-by, offset-low, bare-capacity}
 use Rattle.ser_vec.proofs.vector.SerVec.extend_from_slice.Goals as goal
 

@@ -1,7 +1,7 @@
 -- The element at an index of a live vector is loaded.
-use Rattle.std.proofs.Common.{◌≡◌, ℕ, ◌+◌, ◌-◌, ◌*◌, ◌^◌, ◌<◌, ◌≤◌, length, sym, refl, ap, ◌∙◌, mul-le-mul, arith}
+use Rattle.std.proofs.Common.{◌<◌, arith}
 use Rattle.std.proofs.lemmas.Result.{err_from_is_err_and}
-use Rattle.ser_vec.specs.Vectors.{plain, Lives, absent}
+use Rattle.ser_vec.specs.Vectors.{plain, absent}
 use Rattle.ser_vec.proofs.Vectors.{dead, alone, lives-as, getting-by, getting-cut-by, offset-low}
 use Rattle.ser_vec.proofs.vector.SerVec.get.Goals as goal
 

@@ -1,7 +1,7 @@
 -- The last element of a live vector is loaded and taken off.
-use Rattle.std.proofs.Common.{◌≡◌, ℕ, ◌+◌, ◌-◌, ◌*◌, ◌^◌, ◌<◌, ◌≤◌, length, sym, refl, ap, ◌∙◌, mul-le-mul, arith}
+use Rattle.std.proofs.Common.{◌-◌, ◌<◌, arith}
 use Rattle.std.proofs.lemmas.Result.{err_from_is_err_and}
-use Rattle.ser_vec.specs.Vectors.{plain, Lives, none}
+use Rattle.ser_vec.specs.Vectors.{plain, none}
 use Rattle.ser_vec.proofs.Vectors.{dead, alone, lives-as, popping-by, popping-cut-by, offset-low}
 use Rattle.ser_vec.proofs.vector.SerVec.pop.Goals as goal
 

@@ -1,7 +1,7 @@
 -- An element is appended to a live vector that is not full.
-use Rattle.std.proofs.Common.{◌≡◌, ℕ, ◌+◌, ◌-◌, ◌*◌, ◌^◌, ◌<◌, ◌≤◌, [], ◌∷◌, length, sym, refl, ap, ◌∙◌, mul-le-mul, arith}
+use Rattle.std.proofs.Common.{◌-◌, ◌≤◌, [], ◌∷◌, arith}
 use Rattle.std.proofs.lemmas.Result.{err_from_is_err_and}
-use Rattle.ser_vec.specs.Vectors.{plain, Lives, full}
+use Rattle.ser_vec.specs.Vectors.{plain, full}
 use Rattle.ser_vec.proofs.Vectors.{dead, alone, lives-as, extending-by, extending-cut-by, offset-low}
 use Rattle.ser_vec.proofs.vector.SerVec.push.Goals as goal
 

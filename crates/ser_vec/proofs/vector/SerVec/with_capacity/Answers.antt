@@ -1,5 +1,5 @@
 -- A vector is opened by a push, or refused before it.
-use Rattle.std.proofs.Common.{◌≡◌, ℕ, ◌*◌, ◌/◌, ◌<◌, ◌≤◌, [], ◌∷◌, refl, subst, div-lt_iff_lt-mul, le-div_iff_mul-le, arith}
+use Rattle.std.proofs.Common.{◌*◌, ◌<◌, ◌≤◌, [], subst, div-lt_iff_lt-mul, le-div_iff_mul-le, arith}
 use Rattle.std.proofs.lemmas.Result.{err_from_is_err_and}
 use Rattle.session.specs.Runs.{opened}
 use Rattle.ser_vec.specs.Vectors.{bare, too_large}

@@ -1,4 +1,4 @@
-use Rattle.std.proofs.Common.{◌≡◌, ℕ, ◌<◌, ◌≤◌, length, refl, subst, arith}
+use Rattle.std.proofs.Common.{◌≡◌, ◌<◌, ◌≤◌, length, refl, subst, arith}
 use Rattle.session.specs.Steps.{IsNewest}
 use Rattle.session.specs.Records.{live}
 use Rattle.session.proofs.Records.{live-none, live-newest}

@@ -1,10 +1,10 @@
-use Rattle.std.proofs.Common.{◌≡◌, ◌+◌, ◌-◌, ◌<◌, ◌≤◌, true, false, sym, refl, ◌∙◌, arith}
+use Rattle.std.proofs.Common.{◌≡◌, ◌+◌, ◌-◌, ◌<◌, ◌≤◌, false, refl, arith}
 use Rattle.std.proofs.lemmas.Bool.{both_ways}
 use Rattle.allocator.specs.Memory.{fits}
 use Rattle.allocator.proofs.Laws.{push-served}
 use Rattle.arena.specs.Arenas.{blocks_of}
 use Rattle.arena.specs.Keeps.{memory-lawful}
-use Rattle.arena.specs.Rings.{place, chain}
+use Rattle.arena.specs.Rings.{place}
 use Rattle.arena.specs.Views.{HandleSound, memory_at}
 use Rattle.arena.proofs.Steps.{unserved, roomy, unfit, served, marked, beyond, asks_none, asks-not, consulted-push, nil-opened, cons-opened}
 use Rattle.arena.proofs.arena.calls.ArenaHandleAllocator.push_alloc.Goals as goal
