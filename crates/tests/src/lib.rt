@@ -11,11 +11,11 @@ mod arenas;
 #[cfg(test)]
 mod buffers;
 #[cfg(test)]
-mod cards;
-#[cfg(test)]
 mod layouts;
 #[cfg(test)]
 mod regions;
+#[cfg(test)]
+mod run_cards;
 #[cfg(test)]
 mod sessions;
 #[cfg(test)]
