@@ -9,9 +9,5 @@ returns-then-align-eq0 c = (
       let divides = divides-from-aligning c.args.align aligning in
       let some = aligning-some c.args.align aligning in
       let high = aligning.1 in
-      elim c.then-align-eq0.branch [
-        | goal.then-align-eq0-via-then-align-eq0 w ↦ omega arith
-        | goal.then-align-eq0-via-else-align-eq0+then-align-gt4096 w ↦ omega arith
-        | goal.then-align-eq0-via-else-align-eq0+else-align-gt4096+then-align-ne0 w ↦ omega arith
-      ],
+      grind arith,
 )

@@ -1,4 +1,4 @@
-use Rattle.std.proofs.Common.{◌≡◌, ◌<◌, ◌≤◌, length, refl, subst, arith}
+use Rattle.std.proofs.Common.{◌≡◌, ◌-◌, ◌<◌, ◌≤◌, length, get_or, refl, subst, arith}
 use Rattle.session.specs.Steps.{IsNewest}
 use Rattle.session.specs.Records.{live}
 use Rattle.session.proofs.Records.{live-none, live-newest}
@@ -20,7 +20,8 @@ returns-then-self-eq0 g c sound =
       | then-self-eq0-via-else-self-eq0+then-self-grant w ↦
           let some : 0 < s.count = omega arith in
           let few : s.count ≤ length s.spans = omega arith in
-          w.if-self-grant.true (subst (λ l. IsNewest l c.args.grant) (live-newest s.spans s.count w.index-self-self.result some few) newest)
+          let named = subst (λ l. IsNewest l c.args.grant) (live-newest s.spans s.count w.index-self-self.result some few) newest in
+          omega arith
     ] in
     record { step = pop-older _ c.args.grant _ here same ne; sound = sound; own = λ ne. refl }
 
@@ -29,9 +30,10 @@ returns g c sound =
     let s = c.args.self.now in
     let some : 0 < s.count = omega arith in
     let few : s.count ≤ length s.spans = omega arith in
+    let named : (get_or s.spans (s.count - 1) c.index-self-self.result).grant ≡ c.args.grant = omega arith in
     let performed = c.pop_newest.ensures sound in
     record {
-      step = pop-newest performed.step _ _ (live-newest s.spans s.count c.index-self-self.result some few) c.args.grant c.if-self-grant.false;
+      step = pop-newest performed.step _ _ (live-newest s.spans s.count c.index-self-self.result some few) c.args.grant named;
       sound = performed.sound;
       own = performed.own;
     }

@@ -1,7 +1,7 @@
-use Rattle.std.proofs.Common.{sym, refl}
+use Rattle.std.proofs.Common.{refl, arith}
 use Rattle.session.proofs.session.Session.span_of.Goals as goal
 
 pub returns : goal.returns
 returns g c =
     let (here, same) = c.in-Some.ensures in
-    (_, here, same, refl, sym c.size.ensures.value)
+    (_, here, same, refl, omega arith)
