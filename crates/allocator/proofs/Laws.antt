@@ -10,8 +10,8 @@ use Rattle.allocator.proofs.Pads.{pad-aligned, pad-aligns}
 use Rattle.allocator.proofs.Spans.{spans-true, spans-from, spans-past, spans-wider, taken-cases, taken-newest, taken-older, untaken-both, untaken-outside, within-full, byte_at-full, taken-full}
 
 -- what lies inside the newest block past its mark is not taken
-past_top : (b : Block) (older : Memory) (x : ℕ) → Lawful (b ∷ older) → top b ≤ x → x < b.base + length b.bytes → taken (b ∷ older) x ≡ false
-past_top b older x (mark, high, apart, filled, rest) past short =
+past-top : (b : Block) (older : Memory) (x : ℕ) → Lawful (b ∷ older) → top b ≤ x → x < b.base + length b.bytes → taken (b ∷ older) x ≡ false
+past-top b older x (mark, high, apart, filled, rest) past short =
     let in' : b.base ≤ x = omega arith in
     untaken-both b older x (spans-past b.base b.mark x past) (untaken-outside older x rest (apart x (spans-from b.base (length b.bytes) x in' short)))
 
@@ -24,7 +24,7 @@ fresh-fitted (b ∷ older) size align lawful some fit =
     record {
       aligned = pad-aligns (top b) align some;
       last = (omega arith, omega arith);
-      unaliased = λ x low high. past_top b older x lawful (omega arith) (omega arith);
+      unaliased = λ x low high. past-top b older x lawful (omega arith) (omega arith);
       kept = λ x yes'. elim (taken-cases b older x yes') [
         | inl here ↦ taken-newest later older x (spans-wider b.base b.mark x later.mark (omega arith) here)
         | inr there ↦ taken-older later older x there
@@ -76,9 +76,9 @@ undone m size align at (b ∷ older) r m'' lawful' some some' fresh pop =
     let on : taken_in b at ≡ true = spans-from b.base b.mark at low (omega arith) in
     let earlier = marked b (at - b.base) in
     let back : m'' ≡ earlier ∷ older = pop.after ∙ ap (λ n. n ∷ older) (cond-true _ _ _ on) in
-    let top-is : b.base + (at - b.base) ≡ at = omega arith in
-    let none : pad (b.base + (at - b.base)) align ≡ 0 = ap (λ n. pad n align) top-is ∙ pad-aligned at align some' fresh.aligned in
-    let span-end : b.base + b.mark ≤ b.base + length b.bytes = omega arith in
+    let top_is : b.base + (at - b.base) ≡ at = omega arith in
+    let none : pad (b.base + (at - b.base)) align ≡ 0 = ap (λ n. pad n align) top_is ∙ pad-aligned at align some' fresh.aligned in
+    let span_end : b.base + b.mark ≤ b.base + length b.bytes = omega arith in
     subst (λ n. Undone m size align at (b ∷ older) r n) (sym back)
     (record {
       accepted = pop.answer ∙ cond-true (taken (b ∷ older) at) (Ok tt) _ (taken-newest b older at on);

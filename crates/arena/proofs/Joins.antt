@@ -94,14 +94,14 @@ module _ (rs : List BlockRecord) (n : ℕ) (whole : length rs ≡ 23) (some : 0 
   abbrev only : BlockRecord
   only = record { address = (nth rs (n - 1)).address; size = (nth rs (n - 1)).size; next = 0 }
 
-  at_first : nth (set rs 0 (record { address = (nth rs (n - 1)).address; size = (nth rs (n - 1)).size; next = 0 })) 0 ≡ only
-  at_first = get_or-set_same rs 0 only nothing (omega arith)
+  at-first : nth (set rs 0 (record { address = (nth rs (n - 1)).address; size = (nth rs (n - 1)).size; next = 0 })) 0 ≡ only
+  at-first = get_or-set_same rs 0 only nothing (omega arith)
 
   pub alone-linked : Linked (set rs 0 (record { address = (nth rs (n - 1)).address; size = (nth rs (n - 1)).size; next = 0 })) 1
-  alone-linked i h = let e : i ≡ 0 = omega arith in rw e (ap (λ (r : BlockRecord). r.next) at_first)
+  alone-linked i h = let e : i ≡ 0 = omega arith in rw e (ap (λ (r : BlockRecord). r.next) at-first)
 
   pub alone-chain : chain (set rs 0 (record { address = (nth rs (n - 1)).address; size = (nth rs (n - 1)).size; next = 0 })) 1 ≡ newest (chain rs n)
-  alone-chain = rw (headed rs n some) (ap (λ (r : BlockRecord). place r ∷ []) at_first)
+  alone-chain = rw (headed rs n some) (ap (λ (r : BlockRecord). place r ∷ []) at-first)
 
   pub alone-rises : rising (chain rs n) ≡ true → rising (chain (set rs 0 (record { address = (nth rs (n - 1)).address; size = (nth rs (n - 1)).size; next = 0 })) 1) ≡ true
   alone-rises r =

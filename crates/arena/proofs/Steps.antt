@@ -26,9 +26,9 @@ use Rattle.arena.specs.Keeps.{rise, contents-same, usable-length}
 use Rattle.arena.proofs.Table.{least-is, least-small}
 use Rattle.arena.proofs.Sources.{granted-differs, granted-kept, granted-olders, full-olders}
 
-pub room_small : (ps : List Place) → rising ps ≡ true → room ps ≤ 67108864
-room_small [] r = omega arith
-room_small (p ∷ ps) r = let s = (rise p ps r).small in omega arith
+pub room-small : (ps : List Place) → rising ps ≡ true → room ps ≤ 67108864
+room-small [] r = omega arith
+room-small (p ∷ ps) r = let s = (rise p ps r).small in omega arith
 
 pub newest-small : (ps : List Place) → rising ps ≡ true → newest_size ps ≤ 67108864
 newest-small [] r = omega arith
@@ -112,20 +112,20 @@ pub unserved : (bs : List Outstanding) (ps : List Place) (used size align : ℕ)
 unserved bs ps used size align none = rw none (refused refl cause.Unopened refl refl)
 
 -- a push that the newest block has room for, or not
-module _ (bs : List Outstanding) (ps : List Place) (p : Place) (qs : List Place) (used size align padding many : ℕ) (first : ps ≡ p ∷ qs) (k : Kept bs ps) (pad-is : padding ≡ pad (p.base + 16 + used) align) (many_is : many ≡ size) where
+module _ (bs : List Outstanding) (ps : List Place) (p : Place) (qs : List Place) (used size align padding many : ℕ) (first : ps ≡ p ∷ qs) (k : Kept bs ps) (pad_is : padding ≡ pad (p.base + 16 + used) align) (many_is : many ≡ size) where
   newest-length : length (drop 16 (contents bs p.base)) ≡ p.size - 16
   newest-length = usable-length bs p (subst (λ (rs : List Place). Kept bs rs) first k).0
 
   pub roomy : padding + many ≤ p.size - 16 - used → fits (memory_of bs ps used) size align ≡ true
-  roomy under = rw first (let u = newest-length in le-leb _ _ (omega (arith, pad-is)))
+  roomy under = rw first (let u = newest-length in le-leb _ _ (omega (arith, pad_is)))
 
   pub unfit : p.size - 16 - used < padding + many → fits (memory_of bs ps used) size align ≡ false
-  unfit over = rw first (let u = newest-length in lt-leb _ _ (omega (arith, pad-is)))
+  unfit over = rw first (let u = newest-length in lt-leb _ _ (omega (arith, pad_is)))
 
   pub served : padding + many ≤ p.size - 16 - used → Push (memory_of bs ps used) size align (Ok (p.base + 16 + used + padding)) (memory_of bs ps (used + (padding + many)))
   served under =
-      fitted (roomy under) (rw first (ap (λ (n : ℕ). Ok (p.base + 16 + used + n)) pad-is))
-      (rw first (ap₂ (λ (n m : ℕ). usable bs p (used + (n + m)) ∷ olders bs qs) pad-is many_is))
+      fitted (roomy under) (rw first (ap (λ (n : ℕ). Ok (p.base + 16 + used + n)) pad_is))
+      (rw first (ap₂ (λ (n m : ℕ). usable bs p (used + (n + m)) ∷ olders bs qs) pad_is many_is))
 
   pub marked : padding + many ≤ p.size - 16 - used → used ≤ room ps → used + (padding + many) ≤ room ps
   marked under low = let e = ap room first in omega arith
@@ -178,8 +178,8 @@ pub asks-not : (ps : List Place) (b : Bool) (size align : ℕ) → b ≡ true �
 asks-not [] b size align e = refl
 asks-not (p ∷ ps) b size align e = rw e refl
 
-pub asks_none : (ps : List Place) (b : Bool) (size align : ℕ) → ps ≡ [] → pushing ps b size align ≡ false
-asks_none ps b size align none = rw none refl
+pub asks-none : (ps : List Place) (b : Bool) (size align : ℕ) → ps ≡ [] → pushing ps b size align ≡ false
+asks-none ps b size align none = rw none refl
 
 -- what the source was asked by a push beyond the newest block
 pub consulted-push : {S : Type 0} {chooses : S → ℕ → Result ℕ SourceFault → S → Type 0} (ps : List Place) (p : Place) (qs : List Place) (b : Bool) (size align : ℕ) {s s' : S} {answer : Result ℕ SourceFault} → ps ≡ p ∷ qs → b ≡ false →
@@ -202,8 +202,8 @@ doubles-fit last ps e r = let small = newest-small ps r in search rules
 pub growths-fit : (n : ℕ) (ps : List Place) → counted n ps ≡ true → rising ps ≡ true → Fits w64 (n + 1)
 growths-fit n ps c r = let few = few-growths n ps c r in search rules
 
-pub some_of : (n : ℕ) → 16 ≤ n → 0 < n
-some_of n h = omega arith
+pub some-of : (n : ℕ) → 16 ≤ n → 0 < n
+some-of n h = omega arith
 
 pub below-48 : (n : ℕ) → n % 281474976710656 < 2 ^ 48
 below-48 n = omega arith
@@ -239,12 +239,12 @@ module _ (s s' : Source) (ps : List Place) (cap size growths : ℕ) (empty : ps 
       }
 
 -- a push beyond the newest block, for which the arena wants one of n bytes
-module _ (s s' : Source) (ps : List Place) (n last least size align sz al used growths : ℕ) (last-is : newest_size ps ≡ last) (n-is : n ≡ max (2 * last) least) (l : LeastPower (16 + sz + al) least) (sz-is : sz ≡ size) (al-is : al ≡ align) where
+module _ (s s' : Source) (ps : List Place) (n last least size align sz al used growths : ℕ) (last_is : newest_size ps ≡ last) (n_is : n ≡ max (2 * last) least) (l : LeastPower (16 + sz + al) least) (sz_is : sz ≡ size) (al_is : al ≡ align) where
   pub want : n ≡ wanted last size align
-  want = wanted-is n last least size align sz al n-is l sz-is al-is
+  want = wanted-is n last least size align sz al n_is l sz_is al_is
 
   want' : n ≡ wanted (newest_size ps) size align
-  want' = want ∙ ap (λ (x : ℕ). wanted x size align) (sym last-is)
+  want' = want ∙ ap (λ (x : ℕ). wanted x size align) (sym last_is)
 
   pub grow-some : 16 ≤ n
   grow-some = omega (arith, l.above)
@@ -276,9 +276,9 @@ module _ (s s' : Source) (ps : List Place) (n last least size align sz al used g
 
     pub granted-extends : (ps' : List Place) (at padding sz' : ℕ) → Fresh s s' n some under ps ps' at → ps' ≡ record { base = at % 281474976710656; size = n } ∷ ps → padding ≡ pad (at % 281474976710656 + 16) align → sz' ≡ size →
         Extends (record { source = s; blocks = ps; growths = growths }) used size align (Ok (at % 281474976710656 + 16 + padding)) (record { source = s'; blocks = ps'; growths = growths + 1 }) (padding + sz')
-    granted-extends ps' at padding sz' f first pad-is many =
+    granted-extends ps' at padding sz' f first pad_is many =
         record {
           beyond = λ over. absurd (omega (arith, want'));
-          asks = λ _. record { block = at; bytes = f.bytes; many = f.many ∙ want'; first = first-is _ _ _ _ f.low pad-is; after = f.grown growths };
+          asks = λ _. record { block = at; bytes = f.bytes; many = f.many ∙ want'; first = first-is _ _ _ _ f.low pad_is; after = f.grown growths };
           marked = subst (λ (qs : List Place). Marked used size (Ok (at % 281474976710656 + 16 + padding)) qs (padding + sz')) (sym first) (omega arith);
         }

@@ -12,13 +12,13 @@ abbrev both : Bool → Bool → Bool
 both true b = b
 both false b = false
 
-both_left : (a b : Bool) → T (both a b) → T a
-both_left true b t = tt
-both_left false b t = t
+both-left : (a b : Bool) → T (both a b) → T a
+both-left true b t = tt
+both-left false b t = t
 
-both_right : (a b : Bool) → T (both a b) → T b
-both_right true b t = t
-both_right false b t = absurd t
+both-right : (a b : Bool) → T (both a b) → T b
+both-right true b t = t
+both-right false b t = absurd t
 
 -- the test holds of each entry and its place
 abbrev every : (ℕ → ℕ → Bool) → ℕ → List ℕ → Bool
@@ -27,10 +27,10 @@ every f i (x ∷ xs) = both (f i x) (every f (suc i) xs)
 
 each : (f : ℕ → ℕ → Bool) (xs : List ℕ) (i : ℕ) → T (every f i xs) → (k : ℕ) → k < length xs → T (f (i + k) (get_or xs k 0))
 each f [] i t k h = absurd (not-suc-le-zero h)
-each f (x ∷ xs) i t zero h = subst (λ (m : ℕ). T (f m x)) (sym (add-zero i)) (both_left (f i x) (every f (suc i) xs) t)
+each f (x ∷ xs) i t zero h = subst (λ (m : ℕ). T (f m x)) (sym (add-zero i)) (both-left (f i x) (every f (suc i) xs) t)
 each f (x ∷ xs) i t (suc k) h =
     subst (λ (m : ℕ). T (f m (get_or xs k 0))) (suc-add i k ∙ sym (add-suc i k))
-    (each f xs (suc i) (both_right (f i x) (every f (suc i) xs) t) k (le_of_suc-le-suc h))
+    (each f xs (suc i) (both-right (f i x) (every f (suc i) xs) t) k (le_of_suc-le-suc h))
 
 right : ℕ → ℕ → Bool
 right k x = eqb x (2 ^ (k + 4))
@@ -80,13 +80,13 @@ double-least (suc times) n p k e below enough = elim (cases_lt p n) [
       })
 ]
 
-below_power : (n : ℕ) → n ≤ 2 ^ n
-below_power zero = omega (arith, pow_pos 0)
-below_power (suc n) = omega (arith, below_power n, two-pow-succ n, pow_pos n)
+below-power : (n : ℕ) → n ≤ 2 ^ n
+below-power zero = omega (arith, pow_pos 0)
+below-power (suc n) = omega (arith, below-power n, two-pow-succ n, pow_pos n)
 
 pub least_power_of-least : (n : ℕ) → LeastPower n (least_power_of n)
 unfolding least_power_of
-least_power_of-least n = double-least n n 1 0 refl (λ j h. absurd (omega arith)) (subst (λ (m : ℕ). n ≤ 2 ^ m) (sym (add-zero n)) (below_power n))
+least_power_of-least n = double-least n n 1 0 refl (λ j h. absurd (omega arith)) (subst (λ (m : ℕ). n ≤ 2 ^ m) (sym (add-zero n)) (below-power n))
 
 -- and no other number is
 pub least-is : (n p : ℕ) → LeastPower n p → p ≡ least_power_of n

@@ -53,8 +53,8 @@ module _ (text : List ℕ) (k : ℕ) (run : Run text k) where
       (omega arith, sym (ap (λ ds. ds ++ drop k text) same ∙ take-append-drop k text))
 
   module _ (n t : ℕ) (ts : List ℕ) (small : n ≤ 99999999) (low : t < 48) (is : text ≡ decimal n ++ t ∷ ts) where
-    run_length : k ≡ length (decimal n)
-    run_length =
+    run-length : k ≡ length (decimal n)
+    run-length =
         let size : length text ≡ length (decimal n) + length (t ∷ ts) = ap length is ∙ length-append (decimal n) (t ∷ ts) in
         elim (cases_order k (length (decimal n))) [
           | inl e ↦ e
@@ -66,13 +66,13 @@ module _ (text : List ℕ) (k : ℕ) (run : Run text k) where
         ]
 
     run-front : take k text ≡ decimal n
-    run-front = ap (take k) is ∙ take_at (decimal n) (t ∷ ts) k (sym run_length)
+    run-front = ap (take k) is ∙ take_at (decimal n) (t ∷ ts) k (sym run-length)
 
     pub run-rest : drop k text ≡ t ∷ ts
-    run-rest = ap (drop k) is ∙ drop_at (decimal n) (t ∷ ts) k (sym run_length)
+    run-rest = ap (drop k) is ∙ drop_at (decimal n) (t ∷ ts) k (sym run-length)
 
-    pub run_value : digits_value 10 (take k text) ≡ n
-    run_value = ap (digits_value 10) run-front ∙ digits_value-decimal own n (omega arith)
+    pub run-value : digits_value 10 (take k text) ≡ n
+    run-value = ap (digits_value 10) run-front ∙ digits_value-decimal own n (omega arith)
 
     pub run-canonical : Canonical (take k text)
     run-canonical = subst Canonical (sym run-front) (canonical-decimal n small)
@@ -87,9 +87,9 @@ decimal-run n t ts small low =
     }
 
 -- a text begins with one number
-pub same_number : (m n t u : ℕ) (ts us : List ℕ) → m ≤ 99999999 → n ≤ 99999999 → t < 48 → u < 48 → decimal m ++ t ∷ ts ≡ decimal n ++ u ∷ us → (m ≡ n) × (t ∷ ts ≡ u ∷ us)
-same_number m n t u ts us small small' low low' is =
+pub same-number : (m n t u : ℕ) (ts us : List ℕ) → m ≤ 99999999 → n ≤ 99999999 → t < 48 → u < 48 → decimal m ++ t ∷ ts ≡ decimal n ++ u ∷ us → (m ≡ n) × (t ∷ ts ≡ u ∷ us)
+same-number m n t u ts us small small' low low' is =
     let run = decimal-run m t ts small low in (
-      sym (run_value _ _ run m t ts small low refl) ∙ run_value _ _ run n u us small' low' is,
+      sym (run-value _ _ run m t ts small low refl) ∙ run-value _ _ run n u us small' low' is,
       sym (run-rest _ _ run m t ts small low refl) ∙ run-rest _ _ run n u us small' low' is,
     )

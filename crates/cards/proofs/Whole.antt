@@ -5,7 +5,7 @@ use Rattle.cards.specs.declared.Entry.{Entry}
 use Rattle.cards.specs.Letters.{letter_of}
 use Rattle.cards.specs.Read.{Is, OneWriting, Lines}
 use Rattle.cards.specs.Written.{letters, sizes, written}
-use Rattle.cards.proofs.Decimals.{same_number}
+use Rattle.cards.proofs.Decimals.{same-number}
 use Rattle.cards.proofs.Lines.{one-lines}
 
 length-letters : (es : List Entry) → length (letters es) ≡ length es
@@ -28,20 +28,20 @@ module _ (es : List Entry) (rest : List ℕ) (count : ℕ) (is : rest ≡ below 
 -- what is read line by line is the card
 pub join : (text rest ls back ss : List ℕ) (count capacity : ℕ) (es : List Entry) → length text ≤ 32768 → count ≤ 4096 → capacity ≤ 99999999 → count ≤ length rest → text ≡ decimal count ++ 32 ∷ (decimal capacity ++ 10 ∷ rest) → ls ≡ take count rest → back ≡ drop count rest → back ≡ 10 ∷ ss → Lines ls ss es → Is text capacity es
 join text rest ls back ss count capacity es short few small long is front behind ended lines =
-    let many : length es ≡ count = sym (length-letters es) ∙ ap length (lines.letters-are ∙ front) ∙ length-take-le count rest long in
-    let whole : below es ≡ rest = (λ i. lines.letters-are i ++ 10 ∷ lines.sizes-are i) ∙ (λ i. front i ++ (sym ended ∙ behind) i) ∙ take-append-drop count rest in
+    let many : length es ≡ count = sym (length-letters es) ∙ ap length (lines.letters_are ∙ front) ∙ length-take-le count rest long in
+    let whole : below es ≡ rest = (λ i. lines.letters_are i ++ 10 ∷ lines.sizes_are i) ∙ (λ i. front i ++ (sym ended ∙ behind) i) ∙ take-append-drop count rest in
     let same : written capacity es ≡ text = (λ i. decimal (many i) ++ 32 ∷ (decimal capacity ++ 10 ∷ whole i)) ∙ sym is in
     (record { count = omega arith; small = small; sound = lines.sound; bytes = omega (arith, ap length same) }, same)
 
 -- no two cards have one text
 pub one-writing : OneWriting
 one-writing c c' es es' w w' e =
-    let counts = same_number (length es) (length es') 32 32 _ _ (omega (arith, w.count)) (omega (arith, w'.count)) (omega arith) (omega arith) e in
+    let counts = same-number (length es) (length es') 32 32 _ _ (omega (arith, w.count)) (omega (arith, w'.count)) (omega arith) (omega arith) e in
     let first : decimal c ++ 10 ∷ below es ≡ decimal c' ++ 10 ∷ below es' = cc counts.1 in
-    let capacities = same_number c c' 10 10 _ _ w.small w'.small (omega arith) (omega arith) first in
+    let capacities = same-number c c' 10 10 _ _ w.small w'.small (omega arith) (omega arith) first in
     let rest : below es ≡ below es' = cc capacities.1 in
     let ls = sym (below-letters es' (below es) (length es) rest counts.0) ∙ below-letters es (below es) (length es) refl refl in
     let ss : sizes es' ++ 10 ∷ [] ≡ sizes es ++ 10 ∷ [] = cc (sym (below-sizes es' (below es) (length es) rest counts.0) ∙ below-sizes es (below es) (length es) refl refl) in (
       capacities.0,
-      one-lines (letters es) (sizes es ++ 10 ∷ []) es es' (record { letters-are = refl; sizes-are = refl; sound = w.sound }) (record { letters-are = ls; sizes-are = ss; sound = w'.sound }),
+      one-lines (letters es) (sizes es ++ 10 ∷ []) es es' (record { letters_are = refl; sizes_are = refl; sound = w.sound }) (record { letters_are = ls; sizes_are = ss; sound = w'.sound }),
     )

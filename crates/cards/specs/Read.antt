@@ -32,6 +32,6 @@ OneWriting = (c c' : ℕ) (es es' : List Entry) → Within c es → Within c' es
 
 -- the second line, without its newline, and the third are those of the entries
 pub record Lines (ls ss : List ℕ) (entries : List Entry) : Type 0 where
-  pub letters-are : letters entries ≡ ls
-  pub sizes-are : sizes entries ++ 10 ∷ [] ≡ ss
+  pub letters_are : letters entries ≡ ls
+  pub sizes_are : sizes entries ++ 10 ∷ [] ≡ ss
   pub sound : AllByRecursion Sound entries

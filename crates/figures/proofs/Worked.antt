@@ -52,8 +52,8 @@ grows a idle handle handle' at shut fresh opens acquired kept pushes =
     let g = pushes.asks (ap opened one) unfit (omega arith) in
     let more : handle'.blocks ≡ record { base = g.block; size = length g.bytes } ∷ handle.blocks = ap (λ (x : Arena). x.blocks) g.after in
     let many : length g.bytes ≡ 4096 = g.many ∙ want in
-    let newest-is = ap newest_size more in
-    let room-is = ap room more in
+    let newest_is = ap newest_size more in
+    let room_is = ap room more in
     let sum = ap total more in
     let sum' = ap total one in
     let count = ap (λ (x : Arena). x.growths) g.after in

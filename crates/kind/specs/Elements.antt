@@ -33,8 +33,8 @@ cue-same {s = s} {l = l} {t = t} {s' = s'} {l' = l'} es el et p q r p' q' r' =
     subst R et (λ h. b ∙ ap (λ z. cue s' l' t p' q' z) (le_prop r h)) r'
 
 -- a number packed and read again, with its limit
-pub again : (width k n : ℕ) → 2 ^ k ≡ 256 ^ width → n < 2 ^ k → number (little_endian width n) % 2 ^ k ≡ n
-again width k n same less =
+pub number-packed : (width k n : ℕ) → 2 ^ k ≡ 256 ^ width → n < 2 ^ k → number (little_endian width n) % 2 ^ k ≡ n
+number-packed width k n same less =
     let whole = number-little_endian width n (subst (λ m. n < m) same less) in
     let small : number (little_endian width n) < 2 ^ k = subst (λ m. m < 2 ^ k) (sym whole) less in
     mod-eq_of_lt small ∙ whole

@@ -23,9 +23,9 @@ number-little_endian (suc width) n less =
     let rest : n / 256 < 256 ^ width = omega (arith, pow-suc 256 width) in
     omega (arith, number-little_endian width (n / 256) rest, div-add-mod n 256)
 
-take_none : (n : ℕ) → number (take n []) ≡ 0
-take_none zero = refl
-take_none (suc n) = refl
+take-none : (n : ℕ) → number (take n []) ≡ 0
+take-none zero = refl
+take-none (suc n) = refl
 
 -- the bytes of a part, read one by one
 pub number-part : (bs : List ℕ) (k n : ℕ) → number (take (suc n) (drop k bs)) ≡ get_or bs k 0 + 256 * number (take n (drop (suc k) bs))
@@ -34,7 +34,7 @@ number-part bs k n = elim (cases_lt k (length bs)) [
   | inr past ↦
       let none = drop_all k bs past in
       let none' : drop (suc k) bs ≡ [] = drop_all (suc k) bs (omega arith) in
-      let nil : number (take n []) ≡ 0 = take_none n in
+      let nil : number (take n []) ≡ 0 = take-none n in
       ap (λ xs. number (take (suc n) xs)) none ∙ omega (arith, get_or_past bs k 0 past, ap (λ xs. number (take n xs)) none', nil)
 ]
 

@@ -5,7 +5,7 @@ use Rattle.kind.specs.declared.element.Byte.{Byte}
 use Rattle.kind.specs.declared.element.Position.{Position}
 use Rattle.kind.specs.declared.element.Cue.{Cue}
 use Rattle.kind.specs.Endian.{length-little_endian, bytes-little_endian, bytes-append}
-use Rattle.kind.specs.Elements.{byte-same, position-same, cue-same, again}
+use Rattle.kind.specs.Elements.{byte-same, position-same, cue-same, number-packed}
 
 pub byte-exact : (x : Byte) → length (little_endian 1 x.value) ≡ 1
 byte-exact x = length-little_endian 1 x.value
@@ -14,7 +14,7 @@ pub byte-bytes : (x : Byte) → AllBytes (little_endian 1 x.value)
 byte-bytes x = bytes-little_endian 1 x.value
 
 pub byte-again : (x : Byte) → ◌≡◌ {A = Byte} (record { value = number (take 1 (little_endian 1 x.value)) % 2 ^ 8; fits = below_power 8 (number (take 1 (little_endian 1 x.value))) }) x
-byte-again x = byte-same (again 1 8 x.value refl x.fits) _ _
+byte-again x = byte-same (number-packed 1 8 x.value refl x.fits) _ _
 
 pub position-exact : (x : Position) → length (little_endian 4 x.at) ≡ 4
 position-exact x = length-little_endian 4 x.at
@@ -23,7 +23,7 @@ pub position-bytes : (x : Position) → AllBytes (little_endian 4 x.at)
 position-bytes x = bytes-little_endian 4 x.at
 
 pub position-again : (x : Position) → ◌≡◌ {A = Position} (record { at = number (take 4 (little_endian 4 x.at)) % 2 ^ 32; fits = below_power 32 (number (take 4 (little_endian 4 x.at))) }) x
-position-again x = position-same (again 4 32 x.at refl x.fits) _ _
+position-again x = position-same (number-packed 4 32 x.at refl x.fits) _ _
 
 pub cue-exact : (x : Cue) → length (little_endian 8 x.sample ++ (little_endian 4 x.length ++ little_endian 4 x.tag)) ≡ 16
 cue-exact x = refl
@@ -34,8 +34,8 @@ cue-bytes x =
     (bytes-append (little_endian 4 x.length) (little_endian 4 x.tag) (bytes-little_endian 4 x.length) (bytes-little_endian 4 x.tag))
 
 -- a cue as its packing is read
-abbrev unpacked : List ℕ → Cue
-unpacked bs =
+abbrev cue_from : List ℕ → Cue
+cue_from bs =
     record {
       sample = number (take 8 bs) % 2 ^ 64;
       length = number (take 4 (drop 8 bs)) % 2 ^ 32;
@@ -45,5 +45,5 @@ unpacked bs =
       small = below_power 32 (number (take 4 (drop 12 bs)));
     }
 
-pub cue-again : (x : Cue) → unpacked (little_endian 8 x.sample ++ (little_endian 4 x.length ++ little_endian 4 x.tag)) ≡ x
-cue-again x = cue-same (again 8 64 x.sample refl x.fits) (again 4 32 x.length refl x.short) (again 4 32 x.tag refl x.small) _ _ _ _ _ _
+pub cue-again : (x : Cue) → cue_from (little_endian 8 x.sample ++ (little_endian 4 x.length ++ little_endian 4 x.tag)) ≡ x
+cue-again x = cue-same (number-packed 8 64 x.sample refl x.fits) (number-packed 4 32 x.length refl x.short) (number-packed 4 32 x.tag refl x.small) _ _ _ _ _ _

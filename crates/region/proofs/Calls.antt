@@ -17,9 +17,9 @@ use Rattle.region.proofs.Windows.{stored-cuts, byte-cuts, leaving-cuts, begins-c
 sized-true : (size : ℕ) → 0 < size → size ≤ 67108864 → sized size ≡ true
 sized-true size some small = grind (arith, nat_tests)
 
-chain_length : (slots : List Slot) (n : ℕ) → length (chain slots n) ≡ n
-chain_length slots zero = refl
-chain_length slots (suc n) = ap suc (chain_length slots n)
+chain-length : (slots : List Slot) (n : ℕ) → length (chain slots n) ≡ n
+chain-length slots zero = refl
+chain-length slots (suc n) = ap suc (chain-length slots n)
 
 module _ (bytes : List ℕ) (slots : List Slot) (count requests last : ℕ) (became : Outcome) (k : keeps (usable (length bytes)) (chain slots count) ≡ true) where
   pub unsized : (size : ℕ) → sized size ≡ false → Take (region bytes slots count requests last became) size (Err fault.BlockSize) (region bytes slots count requests last became)
@@ -50,13 +50,13 @@ module _ (bytes : List ℕ) (slots : List Slot) (count requests last : ℕ) (bec
   chooses size r answers _ = subst (λ (ps : List Place). Answers (usable (length bytes)) ps size r) (sym (places-cuts bytes (chain slots count) k)) answers
 
   pub chooses-full : (size : ℕ) → count ≡ 32 → Cuts (usable (length bytes)) (region bytes slots count requests last became) size (Err fault.NoBlock)
-  chooses-full size full = chooses size (Err fault.NoBlock) (λ less. absurd (omega (arith, chain_length slots count)))
+  chooses-full size full = chooses size (Err fault.NoBlock) (λ less. absurd (omega (arith, chain-length slots count)))
 
-  pub chooses_none : (size : ℕ) → Lowest (usable (length bytes)) (chain slots count) size None → Cuts (usable (length bytes)) (region bytes slots count requests last became) size (Err fault.NoBlock)
-  chooses_none size none = chooses size (Err fault.NoBlock) (λ _. none)
+  pub chooses-none : (size : ℕ) → Lowest (usable (length bytes)) (chain slots count) size None → Cuts (usable (length bytes)) (region bytes slots count requests last became) size (Err fault.NoBlock)
+  chooses-none size none = chooses size (Err fault.NoBlock) (λ _. none)
 
-  pub chooses_lowest : (size at : ℕ) → count < 32 → Lowest (usable (length bytes)) (chain slots count) size (Some at) → Cuts (usable (length bytes)) (region bytes slots count requests last became) size (Ok at)
-  chooses_lowest size at less low = chooses size (Ok at) (omega (arith, chain_length slots count), low)
+  pub chooses-lowest : (size at : ℕ) → count < 32 → Lowest (usable (length bytes)) (chain slots count) size (Some at) → Cuts (usable (length bytes)) (region bytes slots count requests last became) size (Ok at)
+  chooses-lowest size at less low = chooses size (Ok at) (omega (arith, chain-length slots count), low)
 
   module _ (slots' : List Slot) (stay base : ℕ) (left : chain slots' stay ≡ leaving (chain slots count) base) (found : begins (chain slots count) base ≡ ltb stay count) where
     after : region bytes slots' stay requests last became ≡ having (region bytes slots count requests last became) (without (cuts_out bytes (chain slots count)) base)
@@ -73,21 +73,21 @@ module _ (bytes : List ℕ) (slots : List Slot) (count requests last : ℕ) (bec
         record { answer = sym (cond-false _ _ _ was); after = after }
 
   module _ (at : ℕ) (on : covers (chain slots count) at ≡ true) where
-    in_blocks : within (cuts_out bytes (chain slots count)) at ≡ true
-    in_blocks = within-cuts bytes (chain slots count) at k ∙ on
+    in-blocks : within (cuts_out bytes (chain slots count)) at ≡ true
+    in-blocks = within-cuts bytes (chain slots count) at k ∙ on
 
     pub loads : Load (region bytes slots count requests last became) at (Ok (get_or bytes (at - 4096) 0))
-    loads = ap Ok (sym (byte-cuts bytes (chain slots count) at k on)) ∙ sym (cond-true _ _ _ in_blocks)
+    loads = ap Ok (sym (byte-cuts bytes (chain slots count) at k on)) ∙ sym (cond-true _ _ _ in-blocks)
 
     pub stores : (byte : ℕ) → 4096 ≤ at → Store (region bytes slots count requests last became) at byte (Ok tt) (region (set bytes (at - 4096) byte) slots count requests last became)
     stores byte low =
         record {
-          answer = sym (cond-true _ _ _ in_blocks);
-          after = ap (λ (bs : List Outstanding). having (region bytes slots count requests last became) bs) (stored-cuts bytes (chain slots count) at byte k low) ∙ sym (cond-true _ _ _ in_blocks);
+          answer = sym (cond-true _ _ _ in-blocks);
+          after = ap (λ (bs : List Outstanding). having (region bytes slots count requests last became) bs) (stored-cuts bytes (chain slots count) at byte k low) ∙ sym (cond-true _ _ _ in-blocks);
         }
 
-    pub stored_is : (byte : ℕ) → set bytes (at - 4096) byte ≡ stored_in bytes (region bytes slots count requests last became) at byte
-    stored_is byte = sym (cond-true _ _ _ in_blocks)
+    pub stored-is : (byte : ℕ) → set bytes (at - 4096) byte ≡ stored_in bytes (region bytes slots count requests last became) at byte
+    stored-is byte = sym (cond-true _ _ _ in-blocks)
 
   module _ (at : ℕ) (off : covers (chain slots count) at ≡ false) where
     out : within (cuts_out bytes (chain slots count)) at ≡ false

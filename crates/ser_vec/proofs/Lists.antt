@@ -7,14 +7,14 @@ use Rattle.std.proofs.lemmas.Bool.{cases_lt, cases_eq}
 use Rattle.allocator.specs.Memory.{Memory, byte_at}
 use Rattle.kind.specs.declared.Kind as kinds
 use Rattle.ser_vec.specs.Elements.{bytes_at, element_at, packings}
-use Rattle.ser_vec.proofs.Packings.{joined_at}
+use Rattle.ser_vec.proofs.Packings.{joined-at}
 
 suc-le : (a b : ℕ) → a < b → suc a ≤ b
 suc-le a b h = h
 
 -- lists made of the same function
-map_same : {X : Type 0} (f g : ℕ → X) (n : ℕ) → ((k : ℕ) → k < n → f k ≡ g k) → map f (range_with_len 0 n) ≡ map g (range_with_len 0 n)
-map_same f g n same =
+map-same : {X : Type 0} (f g : ℕ → X) (n : ℕ) → ((k : ℕ) → k < n → f k ≡ g k) → map f (range_with_len 0 n) ≡ map g (range_with_len 0 n)
+map-same f g n same =
     same_lists (map f (range_with_len 0 n)) (map g (range_with_len 0 n)) (length-map-range_with_len f 0 n ∙ sym (length-map-range_with_len g 0 n))
     (λ k d less.
     let less' : k < n = omega (arith, length-map-range_with_len f 0 n) in
@@ -26,7 +26,7 @@ module _ {K : Type 0} (kind : kinds.Ghosts K) (exact : (x : K) → length (kind.
 
   -- an element none of whose bytes changed
   kept : (m m' : Memory) (at i : ℕ) → ((to : ℕ) → at + i * w ≤ to → to < at + i * w + w → byte_at m' to ≡ byte_at m to) → element_at kind m' at i ≡ element_at kind m at i
-  kept m m' at i same = ap kind.unpacked (map_same (λ r. byte_at m' (at + i * w + r)) (λ r. byte_at m (at + i * w + r)) w (λ r less. same (at + i * w + r) (omega arith) (omega arith)))
+  kept m m' at i same = ap kind.unpacked (map-same (λ r. byte_at m' (at + i * w + r)) (λ r. byte_at m (at + i * w + r)) w (λ r less. same (at + i * w + r) (omega arith) (omega arith)))
 
   -- one whose packing stands there
   laid-element : (m' : Memory) (start : ℕ) (xs : List K) → ((k : ℕ) → k < length xs * w → byte_at m' (start + k) ≡ get_or (packings kind xs) k 0) →
@@ -38,13 +38,13 @@ module _ {K : Type 0} (kind : kinds.Ghosts K) (exact : (x : K) → length (kind.
       (λ r short.
       let inside : q * w + r < length xs * w = omega (arith, suc-mul q w, mul-le-mul_right w (suc-le q (length xs) less)) in
       let place : start + (q * w + r) ≡ start + q * w + r = omega arith in
-      sym (joined_at kind.packed w exact xs q r d less short) ∙ sym (there (q * w + r) inside) ∙ ap (λ a. byte_at m' a) place) in
+      sym (joined-at kind.packed w exact xs q r d less short) ∙ sym (there (q * w + r) inside) ∙ ap (λ a. byte_at m' a) place) in
       ap kind.unpacked (sym whole) ∙ again y
 
   module _ (m m' : Memory) (at len : ℕ) where
     pub elements-kept : ((to : ℕ) → to < at + len * w → byte_at m' to ≡ byte_at m to) → map (element_at kind m' at) (range_with_len 0 len) ≡ map (element_at kind m at) (range_with_len 0 len)
     elements-kept below =
-        map_same (element_at kind m' at) (element_at kind m at) len
+        map-same (element_at kind m' at) (element_at kind m at) len
         (λ k less. kept m m' at k (λ to low high. below to (omega (arith, suc-mul k w, mul-le-mul_right w (suc-le k len less)))))
 
     pub elements-extended : (xs : List K) → ((k : ℕ) → k < length xs * w → byte_at m' (at + len * w + k) ≡ get_or (packings kind xs) k 0) →

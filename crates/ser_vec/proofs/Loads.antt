@@ -36,33 +36,33 @@ pub record Read {A K : Type 0} (al : Ghosts A) (kind : kinds.Ghosts K) (s : Sess
   pub same : (k : ℕ) → k < n → get_or buffer k 0 ≡ byte_at (state al s).memory (span.at + offset + k)
 
 module _ {A K : Type 0} (al : Ghosts A) (kind : kinds.Ghosts K) (s : Session A) (grant : ℕ) (span : Span) (offset : ℕ) where
-  pub read_none : (buffer : List ℕ) → Read al kind s grant span offset 0 buffer
-  read_none buffer = record { run = opened; same = λ k less. absurd (omega arith) }
+  pub read-none : (buffer : List ℕ) → Read al kind s grant span offset 0 buffer
+  read-none buffer = record { run = opened; same = λ k less. absurd (omega arith) }
 
   module _ (room : Room al s grant offset kind.wide span) where
     -- the bytes of the element
     abbrev bs : List ℕ
     bs = bytes_at (state al s).memory (span.at + offset) kind.wide
 
-    pub read_all : (buffer : List ℕ) → kind.wide ≤ length buffer → (x : K) → x ≡ kind.unpacked (take kind.wide buffer) → Read al kind s grant span offset kind.wide buffer → Loaded al s grant span offset kind x
-    read_all buffer long x is read =
+    pub read-all : (buffer : List ℕ) → kind.wide ≤ length buffer → (x : K) → x ≡ kind.unpacked (take kind.wide buffer) → Read al kind s grant span offset kind.wide buffer → Loaded al s grant span offset kind x
+    read-all buffer long x is read =
         let whole : take kind.wide buffer ≡ bs =
         fill_by_all (λ k. byte_at (state al s).memory (span.at + offset + k)) (take kind.wide buffer) kind.wide 0 (length-take-le kind.wide buffer long)
         (λ k less. get_or-take kind.wide buffer k 0 less ∙ read.same k less) in
         record { value = is ∙ ap kind.unpacked whole; run = read.run }
 
     module _ (n : ℕ) (less : n < kind.wide) (buffer : List ℕ) (sofar : Read al kind s grant span offset n buffer) where
-      at_n : get_or bs n 0 ≡ byte_at (state al s).memory (span.at + offset + n)
-      at_n = get_or-map-range_with_len (λ k. byte_at (state al s).memory (span.at + offset + k)) 0 kind.wide n n 0 less (omega arith)
+      at-n : get_or bs n 0 ≡ byte_at (state al s).memory (span.at + offset + n)
+      at-n = get_or-map-range_with_len (λ k. byte_at (state al s).memory (span.at + offset + k)) 0 kind.wide n n 0 less (omega arith)
 
-      pub read_more : (value : ℕ) → n < length buffer → Performs al s (load grant (offset + n)) (byte value) s → Read al kind s grant span offset (n + 1) (set buffer n value)
-      read_more value short performs =
+      pub read-more : (value : ℕ) → n < length buffer → Performs al s (load grant (offset + n)) (byte value) s → Read al kind s grant span offset (n + 1) (set buffer n value)
+      read-more value short performs =
           let step = (performs room.regular.sound).step in
           let place : span.at + (offset + n) ≡ span.at + offset + n = omega arith in
           let is : value ≡ byte_at (state al s).memory (span.at + offset + n) = load-done span room.regular.unique room.here room.granted step ∙ ap (λ x. byte_at (state al s).memory x) place in
           record {
             run = subst (λ j. Run al s (loads_of grant offset bs j) s) (sym (add-one n))
-                (subst (λ v. Run al s (event (load grant (offset + n)) (byte v) ∷ loads_of grant offset bs n) s) (is ∙ sym at_n) (visited sofar.run performs));
+                (subst (λ v. Run al s (event (load grant (offset + n)) (byte v) ∷ loads_of grant offset bs n) s) (is ∙ sym at-n) (visited sofar.run performs));
             same = λ k less'. elim (cases_lt k n) [
               | inl before ↦ let ne : k ≢ n = omega arith in get_or-set_other buffer n k value 0 ne ∙ sofar.same k before
               | inr past ↦

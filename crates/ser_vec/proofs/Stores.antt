@@ -39,12 +39,12 @@ store-refused span unique here same inside (refuses (store_outside span' here' f
     absurd (omega (arith, ap (λ (x : Span). x.size) (unique span' span here' here (sym same))))
 store-refused span unique here same inside (refuses (store_untaken span' here' less off)) = (refl, refl)
 
-pub laid_none : (s : State) (at : ℕ) (bs : List ℕ) → Laid s at bs 0 s
-laid_none s at bs = record { live = refl; given = refl; there = λ k less. absurd (omega arith); elsewhere = λ to out. refl }
+pub laid-none : (s : State) (at : ℕ) (bs : List ℕ) → Laid s at bs 0 s
+laid-none s at bs = record { live = refl; given = refl; there = λ k less. absurd (omega arith); elsewhere = λ to out. refl }
 
-laid_more : (s s₁ s₂ : State) (at : ℕ) (bs : List ℕ) (n v to : ℕ) → Laid s at bs n s₁ → v ≡ get_or bs n 0 → to ≡ at + n → within s₁.memory to ≡ true →
+laid-more : (s s₁ s₂ : State) (at : ℕ) (bs : List ℕ) (n v to : ℕ) → Laid s at bs n s₁ → v ≡ get_or bs n 0 → to ≡ at + n → within s₁.memory to ≡ true →
     s₂ ≡ new_state (stored s₁.memory to v) s₁.live s₁.given → Laid s at bs (n + 1) s₂
-laid_more s s₁ s₂ at bs n v to laid value place inside is =
+laid-more s s₁ s₂ at bs n v to laid value place inside is =
     let m = s₁.memory in
     let after : (x : ℕ) → byte_at s₂.memory x ≡ byte_at (stored m to v) x = λ x. ap (λ (z : State). byte_at z.memory x) is in
     record {
@@ -64,7 +64,7 @@ laid_more s s₁ s₂ at bs n v to laid value place inside is =
 
 module _ {A : Type 0} (al : Ghosts A) (s : Session A) (grant : ℕ) (span : Span) (offset : ℕ) (bs : List ℕ) where
   pub stored-none : Regular al s → Stored al s grant span offset bs 0 s
-  stored-none regular = record { run = opened; laid = laid_none (state al s) (span.at + offset) bs; regular = regular }
+  stored-none regular = record { run = opened; laid = laid-none (state al s) (span.at + offset) bs; regular = regular }
 
   module _ (most : ℕ) (room : Room al s grant offset most span) (n value : ℕ) (less : n < most) (is : value ≡ get_or bs n 0) (s₁ s₂ : Session A)
       (sofar : Stored al s grant span offset bs n s₁) where
@@ -74,22 +74,22 @@ module _ {A : Type 0} (al : Ghosts A) (s : Session A) (grant : ℕ) (span : Span
     next-run : {last : Event} → last ≡ event (store grant (offset + n) (get_or bs n 0)) done → Run al s (last ∷ stores_of grant offset bs n) s₂ → Run al s (stores_of grant offset bs (n + 1)) s₂
     next-run {last} e run = subst (λ j. Run al s (stores_of grant offset bs j) s₂) (sym (add-one n)) (subst (λ x. Run al s (x ∷ stores_of grant offset bs n) s₂) e run)
 
-    pub stored_more : Performs al s₁ (store grant (offset + n) value) done s₂ → Stored al s grant span offset bs (n + 1) s₂
-    stored_more performs =
+    pub stored-more : Performs al s₁ (store grant (offset + n) value) done s₂ → Stored al s grant span offset bs (n + 1) s₂
+    stored-more performs =
         let sound = sofar.regular.sound in
         let performed = performs sound in
         let (on, after) = store-done span sofar.regular.unique still room.granted performed.step in
         let place : span.at + (offset + n) ≡ span.at + offset + n = omega arith in
         let inside = taken-within (state al s₁).memory (span.at + (offset + n)) (al.lawful s₁.inner sound) on in
-        let laid = laid_more (state al s) (state al s₁) (state al s₂) (span.at + offset) bs n value (span.at + (offset + n)) sofar.laid is place inside after in
+        let laid = laid-more (state al s) (state al s₁) (state al s₂) (span.at + offset) bs n value (span.at + (offset + n)) sofar.laid is place inside after in
         record {
           run = next-run (ap (λ v. event (store grant (offset + n) v) done) is) (visited sofar.run performs);
           laid = laid;
           regular = record { sound = performed.sound; unique = subst Unique (sym (ap (λ (z : State). z.live) after)) sofar.regular.unique };
         }
 
-    pub stored_cut : {fault : Fault} → Performs al s₁ (store grant (offset + n) value) (refused fault) s₂ → (fault ≡ Allocator Address) × StoredCut al s grant span offset bs most s₂
-    stored_cut {fault} performs =
+    pub stored-cut : {fault : Fault} → Performs al s₁ (store grant (offset + n) value) (refused fault) s₂ → (fault ≡ Allocator Address) × StoredCut al s grant span offset bs most s₂
+    stored-cut {fault} performs =
         let inside : offset + n < span.size = omega (arith, room.inside) in
         let (why, same) = store-refused span sofar.regular.unique still room.granted inside (performs sofar.regular.sound).step in
         let last : event (store grant (offset + n) value) (refused fault) ≡ event (store grant (offset + n) (get_or bs n 0)) (refused (Allocator Address)) =

@@ -132,9 +132,9 @@ module _ {A K : Type 0} (al : Ghosts A) (kind : kinds.Ghosts K) (v : Vector) (s 
         Went al s s (λ events. Guarded w (Popping kind) v (state al s) (Ok (Some x)) events (resized v (v.len - 1)) (state al s))
     popping x loaded =
         let f = element_at kind (state al s).memory v.at in
-        let is-len : v.len ≡ v.len - 1 + 1 = omega arith in
+        let is_len : v.len ≡ v.len - 1 + 1 = omega arith in
         let split : map f (range_with_len 0 v.len) ≡ map f (range_with_len 0 (v.len - 1)) ++ x ∷ [] =
-        ap (λ n. map f (range_with_len 0 n)) is-len ∙ map-range_with_len_more f 0 (v.len - 1) (v.len - 1) (omega arith)
+        ap (λ n. map f (range_with_len 0 n)) is_len ∙ map-range_with_len_more f 0 (v.len - 1) (v.len - 1) (omega arith)
         ∙ ap (λ y. map f (range_with_len 0 (v.len - 1)) ++ y ∷ []) (sym (element-is (v.len - 1) x loaded)) in
         record {
           events = loads_of (number_of v.grant) ((v.len - 1) * w) (bytes_at (state al s).memory (v.at + (v.len - 1) * w) w) w;
@@ -260,8 +260,8 @@ module _ {A K : Type 0} (al : Ghosts A) (kind : kinds.Ghosts K) (cap : ℕ) (s s
   performs-as : (answer : Answer) → Performs al s (push (cap * w') a') answer s' → Performs al s (push (cap * kind.wide) kind.aligned) answer s'
   performs-as answer performs = subst (λ n. Performs al s (push (cap * n) kind.aligned) answer s') e (subst (λ a. Performs al s (push (cap * w') a) answer s') e' performs)
 
-  less_as : cap * kind.wide ≤ 16777216
-  less_as = subst (λ n. cap * n ≤ 16777216) e less
+  less-as : cap * kind.wide ≤ 16777216
+  less-as = subst (λ n. cap * n ≤ 16777216) e less
 
   pub opening : (g : Grant) (at : ℕ) → Performs al s (push (cap * w') a') (granted g.number at) s' → Regular al s →
       Went al s s' (λ events. Opening kind cap (state al s) (Ok (new_vector (Some g) at cap 0)) events (state al s'))
@@ -273,7 +273,7 @@ module _ {A K : Type 0} (al : Ghosts A) (kind : kinds.Ghosts K) (cap : ℕ) (s s
       record {
         events = event (push (cap * kind.wide) kind.aligned) (granted g.number at) ∷ [];
         run = visited opened did;
-        rule = placed g at some less_as held;
+        rule = placed g at some less-as held;
       }
 
   pub opening-refused : (fault : session.Fault) → Performs al s (push (cap * w') a') (refused fault) s' → Regular al s →
@@ -282,5 +282,5 @@ module _ {A K : Type 0} (al : Ghosts A) (kind : kinds.Ghosts K) (cap : ℕ) (s s
       record {
         events = event (push (cap * kind.wide) kind.aligned) (refused fault) ∷ [];
         run = visited opened (performs-as (refused fault) performs);
-        rule = unplaced fault some less_as;
+        rule = unplaced fault some less-as;
       }

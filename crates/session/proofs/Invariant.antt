@@ -10,10 +10,10 @@ use Rattle.allocator.proofs.Spans.{spans-from, taken-inside, within-full, byte_a
 use Rattle.session.specs.Ledger.{Span, new_span, Note, Ledger, adds, removes, notes, fed, empty, bytes, all_but_newest, Among, LastStored}
 use Rattle.session.specs.Steps.{State, new_state, fresh}
 use Rattle.session.specs.Laws.{Aligned, Each, AllSeparate, untaken, capacity}
-use Rattle.session.proofs.Rounding.{up, up_above, up-within}
+use Rattle.session.proofs.Rounding.{up, up-above, up-within}
 use Rattle.session.proofs.Blocks.{within-from, byte_at-further, length-full, full-in, length-popped, byte_at-popped, length-written, stored-in, length-stored, byte_at-stored, byte_at-other}
 use Rattle.session.proofs.Stack.{Lies, Tight, bottom, atop, tight-first, tight-low, tight-raised, tight-moved, tight-lies, tight-separate, Taken, tight-taken}
-use Rattle.session.proofs.Grants.{Numbered, Early, each_at, each_map, numbered_below, numbered_more, unique, separate-at, early-last, early-more}
+use Rattle.session.proofs.Grants.{Numbered, Early, each-at, each-map, numbered-below, numbered-more, unique, separate-at, early-last, early-more}
 
 -- the live spans lie in the newest block from where its untaken part began, or in older ones
 abbrev pub Placed : Memory → ℕ → Memory → List Span → Type 0
@@ -36,14 +36,14 @@ pub record Inv (start : Memory) (ledger : Ledger) (s : State) : Type 0 where
   pub kept : Kept s.memory ledger.stores s.live
   pub largest : Aligning ledger.largest
   pub most_bytes : bytes s.live ≤ ledger.peak_bytes
-  pub most-spans : length s.live ≤ ledger.peak_spans
+  pub most_spans : length s.live ≤ ledger.peak_spans
 
 -- the opening
 opening-placed : (m : Memory) → Lawful m → Placed m 1 m []
 opening-placed [] lawful = refl
 opening-placed (b ∷ older) (mark, end, apart, all, lawful) =
     let whole : capacity (b ∷ older) (b ∷ older) ≡ length b.bytes - b.mark = cond-false _ _ _ (le-ltb (length (b ∷ older)) (length (b ∷ older)) (omega arith)) in
-    (b.base + b.mark, omega arith, omega (arith, whole), bottom (omega arith) (up_above _ 1) tt tt)
+    (b.base + b.mark, omega arith, omega (arith, whole), bottom (omega arith) (up-above _ 1) tt tt)
 
 pub opening : (m : Memory) → Lawful m → Inv m empty (fresh m)
 opening m lawful =
@@ -58,7 +58,7 @@ opening m lawful =
       kept = λ span here. absurd here;
       largest = ((0, refl), omega arith);
       most_bytes = omega arith;
-      most-spans = omega arith;
+      most_spans = omega arith;
     }
 
 -- where the live spans lie
@@ -76,9 +76,9 @@ pub placed-taken : (start : Memory) (most : ℕ) (m : Memory) (live : List Span)
 placed-taken start most [] live lawful e = subst (λ l. Each (Taken []) l) (sym e) tt
 placed-taken start most (b ∷ older) live (mark, end, apart, all, lawful) (from, low, room, tight) = tight-taken b all low (omega arith) tight
 
-lies_within : (m : Memory) (live : List Span) → Each (Lies m) live → (span : Span) → Among span live → (offset : ℕ) → offset < span.size → within m (span.at + offset) ≡ true
-lies_within m live lies span here offset less =
-    within-from m span (span.at + offset) (each_at (Lies m) live span lies here).0 (omega arith) (omega arith)
+lies-within : (m : Memory) (live : List Span) → Each (Lies m) live → (span : Span) → Among span live → (offset : ℕ) → offset < span.size → within m (span.at + offset) ≡ true
+lies-within m live lies span here offset less =
+    within-from m span (span.at + offset) (each-at (Lies m) live span lies here).0 (omega arith) (omega arith)
 
 -- a push that is served: from what it did to the memory
 module _ (start : Memory) (ledger : Ledger) (m : Memory) (live : List Span) (given : ℕ) (inv : Inv start ledger (new_state m live given))
@@ -105,14 +105,14 @@ module _ (start : Memory) (ledger : Ledger) (m : Memory) (live : List Span) (giv
         kept = keeps;
         largest = largest-more;
         most_bytes = omega (arith, ap bytes inv.agrees);
-        most-spans = omega (arith, ap length inv.agrees);
+        most_spans = omega (arith, ap length inv.agrees);
       }
     where
       keeps : Kept after ledger.stores (new_span (suc given) at size align ∷ live)
       keeps span (inl e) offset value less last =
           absurd (omega (arith, ap (λ (x : Span). x.grant) e, early-last given ledger.stores span.grant offset value inv.early last))
       keeps span (inr here) offset value less last =
-          same (span.at + offset) (lies_within m live (placed-lies start ledger.largest m live inv.lawful inv.places) span here offset less)
+          same (span.at + offset) (lies-within m live (placed-lies start ledger.largest m live inv.lawful inv.places) span here offset less)
           ∙ inv.kept span here offset value less last
 
 -- in the newest block
@@ -149,7 +149,7 @@ furthered start ledger m live given inv size align sized aligning b at first fil
       omega (arith, whole),
       atop sized.0 (omega arith) (omega arith)
           (bottom (omega arith) (omega (arith, up-within b.base b.base align most aligning hm (omega arith) (omega arith)))
-          (each_map (Lies m) (Lies (full m)) (λ span (there, some). (full-in m span there, some)) live (placed-lies start ledger.largest m live inv.lawful inv.places))
+          (each-map (Lies m) (Lies (full m)) (λ span (there, some). (full-in m span there, some)) live (placed-lies start ledger.largest m live inv.lawful inv.places))
           (placed-separate start ledger.largest m live inv.lawful inv.places)),
     )
     (λ to there. byte_at-further b (full m) to lawful.2 (within-full m to ∙ there) ∙ byte_at-full m to)
@@ -180,14 +180,14 @@ popped-inv start ledger m span live given inv lawful =
       lawful = lawful;
       longer = omega (arith, inv.longer, length-popped m span.at);
       agrees = ap all_but_newest inv.agrees;
-      numbered = numbered_more _ _ live inv.numbered.0 inv.numbered.1;
+      numbered = numbered-more _ _ live inv.numbered.0 inv.numbered.1;
       aligned = inv.aligned.1;
       places = popped-placed start ledger.largest m span live inv.lawful inv.places;
       early = inv.early;
       kept = λ one here offset value less last. byte_at-popped m span.at (one.at + offset) ∙ inv.kept one (inr here) offset value less last;
       largest = inv.largest;
       most_bytes = omega (arith, inv.most_bytes);
-      most-spans = omega (arith, inv.most-spans);
+      most_spans = omega (arith, inv.most_spans);
     }
 
 -- a store
@@ -215,18 +215,18 @@ stored-inv start ledger s inv span offset v here less lawful =
       numbered = inv.numbered;
       aligned = inv.aligned;
       places = stored-placed start ledger.largest s.memory s.live at v inv.places;
-      early = (omega (arith, numbered_below (suc s.given) s.live span inv.numbered here), inv.early);
+      early = (omega (arith, numbered-below (suc s.given) s.live span inv.numbered here), inv.early);
       kept = keeps;
       largest = inv.largest;
       most_bytes = inv.most_bytes;
-      most-spans = inv.most-spans;
+      most_spans = inv.most_spans;
     }
   where
     at : ℕ
     at = span.at + offset
 
     there : within s.memory (span.at + offset) ≡ true
-    there = lies_within s.memory s.live (placed-lies start ledger.largest s.memory s.live inv.lawful inv.places) span here offset less
+    there = lies-within s.memory s.live (placed-lies start ledger.largest s.memory s.live inv.lawful inv.places) span here offset less
 
     apart : (one : Span) → Among one s.live → (offset' : ℕ) → offset' < one.size → (span.grant ≡ one.grant → offset ≡ offset' → ⊥) → one.at + offset' ≢ span.at + offset
     apart one here' offset' less' ne same = elim (cases_eq span.grant one.grant) [

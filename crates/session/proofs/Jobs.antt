@@ -9,7 +9,7 @@ use Rattle.session.specs.Laws.{Separation}
 use Rattle.session.specs.Runs.{Run, opened, visited}
 use Rattle.session.specs.Jobs.{Regular, Job, begun, calls, builds, JobLaw}
 use Rattle.session.specs.declared.session.Session.{Session}
-use Rattle.session.proofs.Laws.{run_sound, run-after, session_law}
+use Rattle.session.proofs.Laws.{run-sound, run-after, session_law}
 
 module _ {A : Type 0} (al : Ghosts A) where
   -- a regular session is so after every run
@@ -18,7 +18,7 @@ module _ {A : Type 0} (al : Ghosts A) where
       record { first = regular.first; fresh = regular.fresh; sound = regular.sound; events = events ++ regular.events; run = run-after al regular.run run }
 
   pub regular-sound : {s : Session A} → Regular al s → al.sound s.inner
-  regular-sound regular = run_sound al regular.sound regular.run
+  regular-sound regular = run-sound al regular.sound regular.run
 
   pub regular-separation : {s : Session A} (regular : Regular al s) → Separation (ledger_of regular.events) (state al s)
   regular-separation {s} regular = (session_law al regular.first _ regular.fresh regular.sound regular.events s regular.run).0

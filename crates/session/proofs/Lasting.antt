@@ -12,7 +12,7 @@ use Rattle.session.specs.Runs.{Run, opened, visited}
 use Rattle.session.specs.Jobs.{Regular, Unstored}
 use Rattle.session.specs.declared.session.Session.{Session}
 use Rattle.session.proofs.Blocks.{within-from}
-use Rattle.session.proofs.Grants.{each_at, numbered_below, separate-at}
+use Rattle.session.proofs.Grants.{each-at, numbered-below, separate-at}
 use Rattle.session.proofs.Jobs.{regular-after, regular-sound, regular-separation}
 use Rattle.session.proofs.Laws.{run-trace}
 use Rattle.session.proofs.Traces.{run-kept}
@@ -52,7 +52,7 @@ module _ {A : Type 0} (al : Ghosts A) where
   regular-granted : {s : Session A} → Regular al s → (span : Span) → Among span (state al s).live → span.grant ≤ (state al s).given
   regular-granted {s} regular span here =
       let inv = run-kept _ (run-trace al regular.first _ regular.fresh regular.sound regular.run) in
-      omega (arith, numbered_below (suc (state al s).given) (state al s).live span inv.numbered here)
+      omega (arith, numbered-below (suc (state al s).given) (state al s).live span inv.numbered here)
 
   run-given : {s s' : Session A} {events : List Event} → Regular al s → Run al s events s' → (state al s).given ≤ (state al s').given
   run-given regular opened = omega arith
@@ -65,13 +65,13 @@ module _ {A : Type 0} (al : Ghosts A) where
   step-lasts {s} s' {call} {answer} regular step sound span here not at low high =
       let separation = regular-separation al regular in
       let there : Among span (ledger_of regular.events).live = subst (λ l. Among span l) (sym separation.recorded) here in
-      let inside = within-from (state al s).memory span at (each_at (InOneBlock (state al s).memory) _ span separation.contained there) low high in
+      let inside = within-from (state al s).memory span at (each-at (InOneBlock (state al s).memory) _ span separation.contained there) low high in
       separation.kept call answer (state al s') step (al.lawful s'.inner sound) at inside
-      (λ (other, offset, value, among, is_call, is-done, is_at).
+      (λ (other, offset, value, among, is_call, is_done, is_at).
       elim (cases_eq other.grant span.grant) [
-        | inl same ↦ not offset value (is_call ∙ ap (λ g. store g offset value) same) is-done
+        | inl same ↦ not offset value (is_call ∙ ap (λ g. store g offset value) same) is_done
         | inr differ ↦
-            let (holder, held, named, less) = store-inside step other.grant offset value is_call is-done in
+            let (holder, held, named, less) = store-inside step other.grant offset value is_call is_done in
             let one : holder ≡ other = separation.unique holder other (subst (λ l. Among holder l) (sym separation.recorded) held) among named in
             let size : holder.size ≡ other.size = ap (λ (x : Span). x.size) one in
             elim (separate-at _ span other separation.separate there among (λ e. differ (sym e))) [ inl before ↦ omega arith | inr after ↦ omega arith ]

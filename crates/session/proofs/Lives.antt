@@ -26,8 +26,8 @@ double from power least two = go least.exponent least.is
     ]
 
 -- a need has room for its last push
-need-with : (ledger : Ledger) (size align : ℕ) → size + align ≤ need_with ledger size align + 1
-need-with ledger size align =
+need_with-bound : (ledger : Ledger) (size align : ℕ) → size + align ≤ need_with ledger size align + 1
+need_with-bound ledger size align =
     let spans : 1 ≤ max ledger.peak_spans (suc (length ledger.live)) = omega arith in
     let aligns : align - 1 ≤ max ledger.largest align - 1 = omega arith in
     omega (arith, mul-le-mul spans aligns)
@@ -56,11 +56,11 @@ popped-same (b ∷ older) at = elim (cases_Bool (taken_in b at)) [
   | inr e ↦ subst (λ x. Same (b ∷ older) (x ∷ older)) (sym (cond-false _ _ _ e)) (unchanged (b ∷ older))
 ]
 
-pub stored_same : (m : Memory) (at v : ℕ) → Same m (stored m at v)
-stored_same [] at v = unchanged []
-stored_same (b ∷ older) at v =
+pub stored-same : (m : Memory) (at v : ℕ) → Same m (stored m at v)
+stored-same [] at v = unchanged []
+stored-same (b ∷ older) at v =
     let here = length-written b at v in
-    let deep = stored_same older at v in
+    let deep = stored-same older at v in
     record { count = omega (arith, deep.count); last = omega arith; total = omega (arith, deep.total) }
 
 pub served-same : (m : Memory) (size align at : ℕ) (after : Memory) → Push m size align (Ok at) after → Same m after ⊎ ((b : Block) × (after ≡ b ∷ full m))
@@ -68,16 +68,16 @@ served-same m size align at after (allocators.fitted fit answer is) = inl (subst
 served-same m size align at after (allocators.further unfit block answer ends is) = inr (block, is)
 served-same m size align at after (allocators.refused unfit cause answer is) = absurd (let z : ◌≡◌ {A = ℕ} 0 1 = cc in omega arith)
 
-step_same : {s s' : State} {call : Call} {answer : Answer} → Step s call answer s' → length s'.memory ≡ length s.memory → Same s.memory s'.memory
-step_same {s = s} (refuses why) e = unchanged s.memory
-step_same {s = s} (serves {size = size} {align = align} {at = at} {after = after} sized aligning room rule) e = elim (served-same s.memory size align at after rule) [
+step-same : {s s' : State} {call : Call} {answer : Answer} → Step s call answer s' → length s'.memory ≡ length s.memory → Same s.memory s'.memory
+step-same {s = s} (refuses why) e = unchanged s.memory
+step-same {s = s} (serves {size = size} {align = align} {at = at} {after = after} sized aligning room rule) e = elim (served-same s.memory size align at after rule) [
   | inl same ↦ same
   | inr (b, is) ↦ absurd (omega (arith, ap length is, length-full s.memory))
 ]
-step_same {s = s} (pops span older newest there) e = popped-same s.memory span.at
-step_same {s = s} (pops_newest span older newest there) e = popped-same s.memory span.at
-step_same {s = s} (loads span offset here less there) e = unchanged s.memory
-step_same {s = s} (stores span offset value here less there) e = stored_same s.memory (span.at + offset) value
+step-same {s = s} (pops span older newest there) e = popped-same s.memory span.at
+step-same {s = s} (pops_newest span older newest there) e = popped-same s.memory span.at
+step-same {s = s} (loads span offset here less there) e = unchanged s.memory
+step-same {s = s} (stores span offset value here less there) e = stored-same s.memory (span.at + offset) value
 
 record Inv (first : ℕ) (start : Memory) (events : List Event) (s : State) (growths most : ℕ) : Type 0 where
   run : Trace start events s
@@ -89,11 +89,11 @@ record Inv (first : ℕ) (start : Memory) (events : List Event) (s : State) (gro
   rarely : 0 < growths → first * 2 ^ (growths - 1) < most + 16
   last : 0 < growths → newest_size s.memory ≤ 2 * (most + 16)
 
-whole_same : (start m m' : Memory) → Same m m' → newest_size m ≡ capacity start m + 16 → newest_size m' ≡ capacity start m' + 16
-whole_same start [] [] same e = e
-whole_same start [] (b ∷ older) same e = absurd (omega (arith, same.count))
-whole_same start (b ∷ older) [] same e = absurd (omega (arith, same.count))
-whole_same start (b ∷ older) (b' ∷ older') same e =
+whole-same : (start m m' : Memory) → Same m m' → newest_size m ≡ capacity start m + 16 → newest_size m' ≡ capacity start m' + 16
+whole-same start [] [] same e = e
+whole-same start [] (b ∷ older) same e = absurd (omega (arith, same.count))
+whole-same start (b ∷ older) [] same e = absurd (omega (arith, same.count))
+whole-same start (b ∷ older) (b' ∷ older') same e =
     let size : length b'.bytes ≡ length b.bytes = omega (arith, same.last) in
     let count : length older' ≡ length older = omega (arith, same.count) in
     omega (arith, capacity-same start b b' older older' size count)
@@ -140,7 +140,7 @@ grown-inv first start earlier s growths most inv size align answer s' step lawfu
     (trace_law start earlier s inv.run).1 size align answer s' step (inr more) in
     let small : newest_size s.memory < need_with (ledger_of earlier) size align + 16 = omega (arith, inv.whole) in
     let power = double (16 + size + align) grown.power grown.large (omega arith) in
-    let room = need-with (ledger_of earlier) size align in
+    let room = need_with-bound (ledger_of earlier) size align in
     let all : held s'.memory ≡ block_size b + held s.memory = ap held is ∙ ap (λ n. block_size b + n) (full-held s.memory) in
     let new : newest_size s'.memory ≡ block_size b = ap newest_size is in
     record {
@@ -173,11 +173,11 @@ life-inv {first = first} (begins b is lawful) =
     acquired-inv first (b ∷ []) 0 0 lawful (omega arith) (omega (arith, mul-one first)) (λ none. is) (λ some. absurd (omega arith)) (λ some. absurd (omega arith))
 life-inv (visits {start = start} {s = s} {s' = s'} life step lawful count) =
     let inv = life-inv life in
-    let same = step_same step count in
+    let same = step-same step count in
     record {
       run = stepped inv.run step lawful;
       lawful = lawful;
-      whole = whole_same start s.memory s'.memory same inv.whole;
+      whole = whole-same start s.memory s'.memory same inv.whole;
       doubled = omega (arith, inv.doubled, same.last);
       total = omega (arith, inv.total, same.last, same.total);
       ungrown = λ none. same.total ∙ inv.ungrown none;

@@ -5,9 +5,9 @@ use Rattle.allocator.specs.Memory.{Block, Memory, Apart, AllFull, taken}
 use Rattle.allocator.proofs.Spans.{spans-from, taken-newest, taken-older}
 use Rattle.session.specs.Ledger.{Span, bytes}
 use Rattle.session.specs.Laws.{InOneBlock, Separate, Each, AllSeparate}
-use Rattle.session.proofs.Rounding.{up, up_above, up-near, up-within}
+use Rattle.session.proofs.Rounding.{up, up-above, up-near, up-within}
 use Rattle.session.proofs.Blocks.{across, within-from, taken-all}
-use Rattle.session.proofs.Grants.{each_map}
+use Rattle.session.proofs.Grants.{each-map}
 
 abbrev pub Lies : Memory → Span → Type 0
 Lies m span = InOneBlock m span × (0 < span.size)
@@ -41,7 +41,7 @@ tight-bound {most = most} pos (atop {span = span} {live = live} some end near be
 -- a push raises the mark to the next multiple of its alignment
 module _ (most most' : ℕ) (ha : Aligning most) (ha' : Aligning most') (le : most ≤ most') where
   wider : (mark from : ℕ) → mark ≤ up from most → mark ≤ up from most'
-  wider mark from h = omega (arith, h, up-within from from most most' ha ha' le (up_above from most'))
+  wider mark from h = omega (arith, h, up-within from from most most' ha ha' le (up-above from most'))
 
   pub tight-wider : {older : Memory} {from : ℕ} {live : List Span} {mark : ℕ} → Tight older from most live mark → Tight older from most' live mark
   tight-wider {from = from} {mark = mark} (bottom low high lie apart) = bottom low (wider mark from high) lie apart
@@ -58,14 +58,14 @@ module _ (most most' : ℕ) (ha : Aligning most) (ha' : Aligning most') (le : mo
 pub tight-moved : {older older' : Memory} {from most : ℕ} {live : List Span} {mark : ℕ} → ((span : Span) → InOneBlock older span → InOneBlock older' span) →
     Tight older from most live mark → Tight older' from most live mark
 tight-moved {older = older} {older' = older'} f (bottom {live = live} low high lie apart) =
-    bottom low high (each_map (Lies older) (Lies older') (λ span (there, some). (f span there, some)) live lie) apart
+    bottom low high (each-map (Lies older) (Lies older') (λ span (there, some). (f span there, some)) live lie) apart
 tight-moved f (atop some end near below) = atop some end near (tight-moved f below)
 
 module _ (b : Block) (older : Memory) (apart : Apart b older) where
   -- each live span lies in one block
   pub tight-lies : {from most : ℕ} {live : List Span} {mark : ℕ} → b.base ≤ from → mark ≤ b.base + length b.bytes →
       Tight older from most live mark → Each (Lies (b ∷ older)) live
-  tight-lies low high (bottom {live = live} _ _ lie _) = each_map (Lies older) (Lies (b ∷ older)) (λ span (there, some). (inr there, some)) live lie
+  tight-lies low high (bottom {live = live} _ _ lie _) = each-map (Lies older) (Lies (b ∷ older)) (λ span (there, some). (inr there, some)) live lie
   tight-lies low high (atop some end near below) =
       ((inl (omega (arith, tight-low below), omega arith), some), tight-lies low (omega arith) below)
 
@@ -73,7 +73,7 @@ module _ (b : Block) (older : Memory) (apart : Apart b older) where
   tight-apart : {from most : ℕ} {live : List Span} {mark : ℕ} (one : Span) → b.base ≤ one.at → one.at + one.size ≤ b.base + length b.bytes → 0 < one.size →
       mark ≤ one.at → Tight older from most live mark → Each (Separate one) live
   tight-apart one low high some above (bottom {live = live} _ _ lie _) =
-      each_map (Lies older) (Separate one) (λ span (there, some'). across b older one span apart low high some there some') live lie
+      each-map (Lies older) (Separate one) (λ span (there, some'). across b older one span apart low high some there some') live lie
   tight-apart one low high some above (atop some' end near below) =
       (inr (omega arith), tight-apart one low high some (omega arith) below)
 
@@ -91,7 +91,7 @@ Taken m span = (offset : ℕ) → offset < span.size → taken m (span.at + offs
 pub tight-taken : {older : Memory} {from most : ℕ} {live : List Span} {mark : ℕ} (b : Block) → AllFull older → b.base ≤ from → mark ≤ b.base + b.mark →
     Tight older from most live mark → Each (Taken (b ∷ older)) live
 tight-taken {older = older} b all low high (bottom {live = live} _ _ lie _) =
-    each_map (Lies older) (Taken (b ∷ older)) (λ span lies offset less. taken-older b older (span.at + offset) (taken-all older (span.at + offset) all (within-from older span (span.at + offset) lies.0 (omega arith) (omega arith)))) live lie
+    each-map (Lies older) (Taken (b ∷ older)) (λ span lies offset less. taken-older b older (span.at + offset) (taken-all older (span.at + offset) all (within-from older span (span.at + offset) lies.0 (omega arith) (omega arith)))) live lie
 tight-taken {older = older} b all low high (atop {span = span} some end near below) = (
   (λ offset less. taken-newest b older (span.at + offset) (spans-from b.base b.mark (span.at + offset) (omega (arith, tight-low below)) (omega arith))),
   tight-taken b all low (omega arith) below,

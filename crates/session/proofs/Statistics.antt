@@ -18,7 +18,7 @@ use Rattle.session.specs.declared.fault.Fault.TheVariants.{Allocator}
 use Rattle.session.specs.declared.session.Session.{Session}
 use Rattle.session.proofs.Traces.{trace_law}
 use Rattle.session.proofs.Owns.{refusal-own}
-use Rattle.session.proofs.Laws.{run_sound, run-trace}
+use Rattle.session.proofs.Laws.{run-sound, run-trace}
 
 abbrev Light : Span → Type 0
 Light span = span.size ≤ 16777216
@@ -35,10 +35,10 @@ record Kept (stats : AllocationStats) (ledger : Ledger) (live : List Span) : Typ
   low : ledger.peak_bytes ≤ 1073741824
   rare : ledger.peak_spans ≤ 64
   small : ledger.largest ≤ 4096
-  now-bytes : stats.bytes_allocated ≡ bytes live
-  now-spans : stats.allocations ≡ length live
-  peak-bytes : stats.max_bytes_allocated ≡ ledger.peak_bytes
-  peak-spans : stats.max_allocations ≡ ledger.peak_spans
+  now_bytes : stats.bytes_allocated ≡ bytes live
+  now_spans : stats.allocations ≡ length live
+  peak_bytes : stats.max_bytes_allocated ≡ ledger.peak_bytes
+  peak_spans : stats.max_allocations ≡ ledger.peak_spans
   largest : stats.max_alignment ≡ ledger.largest
 
 opening : Kept unused empty []
@@ -49,10 +49,10 @@ opening = record {
   low = omega arith;
   rare = omega arith;
   small = omega arith;
-  now-bytes = refl;
-  now-spans = refl;
-  peak-bytes = refl;
-  peak-spans = refl;
+  now_bytes = refl;
+  now_spans = refl;
+  peak_bytes = refl;
+  peak_spans = refl;
   largest = refl;
 }
 
@@ -61,14 +61,14 @@ module _ (stats : AllocationStats) (ledger : Ledger) (live : List Span) (kept : 
   served span less size align =
       let here : bytes ledger.live ≡ bytes live = ap bytes kept.recorded in
       let many : length ledger.live ≡ length live = ap length kept.recorded in
-      let b = kept.now-bytes in
-      let n = kept.now-spans in
+      let b = kept.now_bytes in
+      let n = kept.now_spans in
       let all = weight live kept.light in
       let low = kept.low in
       let rare = kept.rare in
       let small = kept.small in
-      let pb = kept.peak-bytes in
-      let ps = kept.peak-spans in
+      let pb = kept.peak_bytes in
+      let ps = kept.peak_spans in
       let pl = kept.largest in
       record {
         recorded = ap (λ l. span ∷ l) kept.recorded;
@@ -77,17 +77,17 @@ module _ (stats : AllocationStats) (ledger : Ledger) (live : List Span) (kept : 
         low = omega arith;
         rare = omega arith;
         small = omega arith;
-        now-bytes = omega arith;
-        now-spans = omega arith;
-        peak-bytes = omega arith;
-        peak-spans = omega arith;
+        now_bytes = omega arith;
+        now_spans = omega arith;
+        peak_bytes = omega arith;
+        peak_spans = omega arith;
         largest = omega arith;
       }
 
   ended : (span : Span) (older : List Span) → live ≡ span ∷ older → Kept (discounted stats span.size) (fed ledger removes) older
   ended span older newest =
-      let b : stats.bytes_allocated ≡ span.size + bytes older = kept.now-bytes ∙ ap bytes newest in
-      let n : stats.allocations ≡ suc (length older) = kept.now-spans ∙ ap length newest in
+      let b : stats.bytes_allocated ≡ span.size + bytes older = kept.now_bytes ∙ ap bytes newest in
+      let n : stats.allocations ≡ suc (length older) = kept.now_spans ∙ ap length newest in
       let few : suc (length older) ≤ 64 = omega (arith, kept.few, ap length newest) in
       record {
         recorded = ap all_but_newest (kept.recorded ∙ newest);
@@ -96,10 +96,10 @@ module _ (stats : AllocationStats) (ledger : Ledger) (live : List Span) (kept : 
         low = kept.low;
         rare = kept.rare;
         small = kept.small;
-        now-bytes = omega arith;
-        now-spans = omega arith;
-        peak-bytes = kept.peak-bytes;
-        peak-spans = kept.peak-spans;
+        now_bytes = omega arith;
+        now_spans = omega arith;
+        peak_bytes = kept.peak_bytes;
+        peak_spans = kept.peak_spans;
         largest = kept.largest;
       }
 
@@ -111,36 +111,36 @@ module _ (stats : AllocationStats) (ledger : Ledger) (live : List Span) (kept : 
     low = kept.low;
     rare = kept.rare;
     small = kept.small;
-    now-bytes = kept.now-bytes;
-    now-spans = kept.now-spans;
-    peak-bytes = kept.peak-bytes;
-    peak-spans = kept.peak-spans;
+    now_bytes = kept.now_bytes;
+    now_spans = kept.now_spans;
+    peak_bytes = kept.peak_bytes;
+    peak_spans = kept.peak_spans;
     largest = kept.largest;
   }
 
 module _ {T : Type 0} (al : Ghosts T) (ledger : Ledger) (t t' : AllocationTracker T) where
-  step_kept : {s s' : State} {call : Call} {answer : Answer} → ((after : State) → Step s call (refused (Allocator Address)) after → ⊥) → Kept t.stats ledger s.live → Step s call answer s' →
+  step-kept : {s s' : State} {call : Call} {answer : Answer} → ((after : State) → Step s call (refused (Allocator Address)) after → ⊥) → Kept t.stats ledger s.live → Step s call answer s' →
       Own (tracked al) t t' s.live call answer → Kept t'.stats (fed ledger (entry call answer)) s'.live
-  step_kept {s = s} {call = call} reached kept (refuses {fault = fault} why) own =
+  step-kept {s = s} {call = call} reached kept (refuses {fault = fault} why) own =
       let same : t'.stats ≡ t.stats = elim (refusal-own (tracked al) t t' s.live s call fault reached why own) [
         | inl is ↦ ap (λ (x : AllocationTracker T). x.stats) is
         | inr (size, align, cause, rule) ↦ rule.1
       ] in
       subst (λ x. Kept x ledger s.live) (sym same) kept
-  step_kept {s = s} reached kept (serves {size = size} {align = align} {at = at} sized aligning room rule) own =
+  step-kept {s = s} reached kept (serves {size = size} {align = align} {at = at} sized aligning room rule) own =
       let span : Span = new_span (suc s.given) at size align in
       let less : length s.live < 64 = elim (cases_lt (length s.live) 64) [ inl h ↦ h | inr h ↦ absurd (room (inl h)) ] in
       subst (λ x. Kept x (fed ledger (adds span)) (span ∷ s.live)) (sym own.1)
       (served t.stats ledger s.live kept span less sized.1 aligning.1)
-  step_kept {s = s} reached kept (pops span older newest there) own =
+  step-kept {s = s} reached kept (pops span older newest there) own =
       subst (λ x. Kept x (fed ledger removes) older) (sym (subst (λ l. OwnPopped (tracked al) t t' l) newest own).1)
       (ended t.stats ledger s.live kept span older newest)
-  step_kept {s = s} reached kept (pops_newest span older newest there) own =
+  step-kept {s = s} reached kept (pops_newest span older newest there) own =
       subst (λ x. Kept x (fed ledger removes) older) (sym (subst (λ l. OwnPopped (tracked al) t t' l) newest own).1)
       (ended t.stats ledger s.live kept span older newest)
-  step_kept {s = s} reached kept (loads span offset here less there) own =
+  step-kept {s = s} reached kept (loads span offset here less there) own =
       subst (λ x. Kept x ledger s.live) (sym (ap (λ (x : AllocationTracker T). x.stats) own)) kept
-  step_kept {s = s} reached kept (stores span offset value here less there) own =
+  step-kept {s = s} reached kept (stores span offset value here less there) own =
       subst (λ x. Kept x (fed ledger (notes (record { grant = span.grant; offset = offset; byte = value }))) s.live) (sym own.3.1)
       (stored t.stats ledger s.live kept span.grant offset value)
 
@@ -149,23 +149,23 @@ module _ {T : Type 0} (al : Ghosts T) (first : Session (AllocationTracker T)) (m
   run-kept : {events : List Event} {s : Session (AllocationTracker T)} → Run (tracked al) first events s → Kept s.inner.stats (ledger_of events) (state (tracked al) s).live
   run-kept opened = subst (λ x. Kept x empty (state (tracked al) first).live) (sym blank) (subst (λ (x : State). Kept unused empty x.live) (sym new) opening)
   run-kept (visited {earlier = earlier} {s = s} {s' = s'} {call = call} run performs) =
-      let performed = performs (run_sound (tracked al) sound run) in
+      let performed = performs (run-sound (tracked al) sound run) in
       let stand = (trace_law _ _ _ (run-trace (tracked al) first m new sound run)).0 in
-      step_kept al (ledger_of earlier) s.inner s'.inner (λ after step. stand.reached call after step) (run-kept run) performed.step performed.own
+      step-kept al (ledger_of earlier) s.inner s'.inner (λ after step. stand.reached call after step) (run-kept run) performed.step performed.own
 
 counts : (stats : AllocationStats) (ledger : Ledger) (live : List Span) → Kept stats ledger live → Counts stats ledger
 counts stats ledger live kept =
     let times : stats.max_allocations * (stats.max_alignment - 1) ≡ ledger.peak_spans * (ledger.largest - 1) =
-    ap₂ (λ n k. n * (k - 1)) kept.peak-spans kept.largest in
+    ap₂ (λ n k. n * (k - 1)) kept.peak_spans kept.largest in
     let aligns : ledger.largest - 1 ≤ 4096 = omega (arith, kept.small) in
     let bound : ledger.peak_spans * (ledger.largest - 1) ≤ 64 * 4096 = mul-le-mul kept.rare aligns in
     let low = kept.low in
-    let same = kept.peak-bytes in
+    let same = kept.peak_bytes in
     record {
-      live-bytes = kept.now-bytes ∙ ap bytes (sym kept.recorded);
-      live-spans = kept.now-spans ∙ ap length (sym kept.recorded);
-      peak-bytes = kept.peak-bytes;
-      peak-spans = kept.peak-spans;
+      live_bytes = kept.now_bytes ∙ ap bytes (sym kept.recorded);
+      live_spans = kept.now_spans ∙ ap length (sym kept.recorded);
+      peak_bytes = kept.peak_bytes;
+      peak_spans = kept.peak_spans;
       largest = kept.largest;
       capacity = omega arith;
     }

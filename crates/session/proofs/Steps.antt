@@ -36,14 +36,14 @@ refused-address false x f e = cc
 
 -- an address past the last number is not taken, so a sum of address and offset may stop there
 module _ (m : Memory) (lawful : Lawful m) (a at : ℕ) (is : a ≡ min at (2 ^ 64 - 1)) where
-  pub load_at : (r : Result ℕ Fault) → Load m a r → Load m at r
-  load_at r rule = elim (cases_lt at (2 ^ 64)) [
+  pub load-at : (r : Result ℕ Fault) → Load m a r → Load m at r
+  load-at r rule = elim (cases_lt at (2 ^ 64)) [
     | inl less ↦ let e : a ≡ at = omega arith in subst (λ x. Load m x r) e rule
     | inr more ↦ rule ∙ cond-false _ _ _ (high-untaken m a lawful (omega arith)) ∙ sym (cond-false _ _ _ (high-untaken m at lawful (omega arith)))
   ]
 
-  pub store_at : (v : ℕ) (r : Result (Unit {0}) Fault) (m' : Memory) → Store m a v r m' → Store m at v r m'
-  store_at v r m' rule = elim (cases_lt at (2 ^ 64)) [
+  pub store-at : (v : ℕ) (r : Result (Unit {0}) Fault) (m' : Memory) → Store m a v r m' → Store m at v r m'
+  store-at v r m' rule = elim (cases_lt at (2 ^ 64)) [
     | inl less ↦ let e : a ≡ at = omega arith in subst (λ x. Store m x v r m') e rule
     | inr more ↦
         let off = high-untaken m a lawful (omega arith) in
@@ -51,8 +51,8 @@ module _ (m : Memory) (lawful : Lawful m) (a at : ℕ) (is : a ≡ min at (2 ^ 6
         record { answer = rule.answer ∙ cond-false _ _ _ off ∙ sym (cond-false _ _ _ off'); after = rule.after ∙ cond-false _ _ _ off ∙ sym (cond-false _ _ _ off') }
   ]
 
-  pub taken_at : taken m a ≡ true → a ≡ at
-  taken_at on = elim (cases_lt at (2 ^ 64)) [
+  pub taken-at : taken m a ≡ true → a ≡ at
+  taken-at on = elim (cases_lt at (2 ^ 64)) [
     | inl less ↦ omega arith
     | inr more ↦ absurd (both_ways (taken m a) (high-untaken m a lawful (omega arith)) on)
   ]
@@ -81,8 +81,8 @@ module _ (s : State) (span : Span) (here : Among span s.live) (grant : ℕ) (sam
         subst (λ g. Step s (store g offset v) done (new_state m' s.live s.given)) same
         (subst (λ m. Step s (store span.grant offset v) done (new_state m s.live s.given)) (sym is) (stores span offset v here less on))
 
-    store-untaken : (f : Fault) → r ≡ Err f → Step s (store grant offset v) (refused (Allocator Address)) (new_state m' s.live s.given)
-    store-untaken f err =
+    store-at-untaken : (f : Fault) → r ≡ Err f → Step s (store grant offset v) (refused (Allocator Address)) (new_state m' s.live s.given)
+    store-at-untaken f err =
         let off : taken s.memory (span.at + offset) ≡ false = declined _ r tt f rule.answer err in
         let is : m' ≡ s.memory = rule.after ∙ cond-false _ _ _ off in
         subst (λ g. Step s (store g offset v) (refused (Allocator Address)) (new_state m' s.live s.given)) same
@@ -91,7 +91,7 @@ module _ (s : State) (span : Span) (here : Among span s.live) (grant : ℕ) (sam
     pub store-faulted : (f : Fault) → r ≡ Err f → Step s (store grant offset v) (refused (Allocator f)) (new_state m' s.live s.given)
     store-faulted f err =
         let is : f ≡ Address = refused-address (taken s.memory (span.at + offset)) tt f (sym err ∙ rule.answer) in
-        subst (λ x. Step s (store grant offset v) (refused (Allocator x)) (new_state m' s.live s.given)) (sym is) (store-untaken f err)
+        subst (λ x. Step s (store grant offset v) (refused (Allocator x)) (new_state m' s.live s.given)) (sym is) (store-at-untaken f err)
 
 -- neither where there is no such byte
 pub load-unaddressed : (s : State) (grant offset : ℕ) (fault : session.Fault) → Unaddressed s.live grant offset fault → Step s (load grant offset) (refused fault) s
@@ -123,8 +123,8 @@ module _ (m m' : Memory) (spans : List LiveSpan) (count given : ℕ) (d : LiveSp
   pop-done u ok = subst (λ x. Step (new_state m (live spans count) given) pop_newest done (new_state x (live spans (count - 1)) given)) (sym rule.after)
       (pops_newest (recorded (get_or spans (count - 1) d)) (live spans (count - 1)) (live-newest spans count d some few) (accepted (taken m (get_or spans (count - 1) d).at) r tt u rule.answer ok))
 
-  pop-untaken : (f : Fault) → r ≡ Err f → Step (new_state m (live spans count) given) pop_newest (refused (Allocator Address)) (new_state m' (live spans count) given)
-  pop-untaken f err =
+  pop-at-untaken : (f : Fault) → r ≡ Err f → Step (new_state m (live spans count) given) pop_newest (refused (Allocator Address)) (new_state m' (live spans count) given)
+  pop-at-untaken f err =
       let off : taken m (get_or spans (count - 1) d).at ≡ false = declined (taken m (get_or spans (count - 1) d).at) r tt f rule.answer err in
       let same : m' ≡ m = rule.after ∙ popped-untaken m (get_or spans (count - 1) d).at off in
       subst (λ x. Step (new_state m (live spans count) given) pop_newest (refused (Allocator Address)) (new_state x (live spans count) given)) (sym same)
@@ -133,16 +133,16 @@ module _ (m m' : Memory) (spans : List LiveSpan) (count given : ℕ) (d : LiveSp
   pub pop-faulted : (f : Fault) → r ≡ Err f → Step (new_state m (live spans count) given) pop_newest (refused (Allocator f)) (new_state m' (live spans count) given)
   pop-faulted f err =
       let is : f ≡ Address = refused-address (taken m (get_or spans (count - 1) d).at) tt f (sym err ∙ rule.answer) in
-      subst (λ x. Step (new_state m (live spans count) given) pop_newest (refused (Allocator x)) (new_state m' (live spans count) given)) (sym is) (pop-untaken f err)
+      subst (λ x. Step (new_state m (live spans count) given) pop_newest (refused (Allocator x)) (new_state m' (live spans count) given)) (sym is) (pop-at-untaken f err)
 
 -- a pop by the newest span's grant is the plain pop
-pub pop-newest : {s s' : State} {answer : Answer} → Step s pop_newest answer s' → (span : Span) (older : List Span) → s.live ≡ span ∷ older → (grant : ℕ) → span.grant ≡ grant → Step s (pop grant) answer s'
-pop-newest {s = s} (refuses (pop_newest_untaken span' older' is off)) span older newest grant e =
+pub pop-by-grant : {s s' : State} {answer : Answer} → Step s pop_newest answer s' → (span : Span) (older : List Span) → s.live ≡ span ∷ older → (grant : ℕ) → span.grant ≡ grant → Step s (pop grant) answer s'
+pop-by-grant {s = s} (refuses (pop_newest_untaken span' older' is off)) span older newest grant e =
     let first : span' ≡ span = cc in
     let eg : span'.grant ≡ grant = ap (λ (x : Span). x.grant) first ∙ e in
     subst (λ g. Step s (pop g) (refused (Allocator Address)) s) eg (refuses (pop_untaken span' older' is off))
-pop-newest (refuses (nothing_live none)) span older newest grant e = absurd (let z : ◌≡◌ {A = ℕ} 0 1 = cc in omega arith)
-pop-newest {s = s} (pops_newest span' older' is there) span older newest grant e =
+pop-by-grant (refuses (nothing_live none)) span older newest grant e = absurd (let z : ◌≡◌ {A = ℕ} 0 1 = cc in omega arith)
+pop-by-grant {s = s} (pops_newest span' older' is there) span older newest grant e =
     let first : span' ≡ span = cc in
     let eg : span'.grant ≡ grant = ap (λ (x : Span). x.grant) first ∙ e in
     subst (λ g. Step s (pop g) done (new_state (popped s.memory span'.at) older' s.given)) eg (pops span' older' is there)

@@ -19,7 +19,7 @@ use Rattle.session.specs.declared.fault.Fault.TheVariants.{Allocator}
 use Rattle.session.proofs.Rounding.{up}
 use Rattle.session.proofs.Blocks.{byte_at-further, byte_at-popped, byte_at-other}
 use Rattle.session.proofs.Stack.{Lies, Taken, tight-raised, tight-bound}
-use Rattle.session.proofs.Grants.{each_at, each_map, unique}
+use Rattle.session.proofs.Grants.{each-at, each-map, unique}
 use Rattle.session.proofs.Invariant.{Inv, opening, fitted, furthered, largest-more, popped-inv, stored-inv, placed-lies, placed-separate, placed-taken}
 use Rattle.session.proofs.Steps.{push-refused}
 
@@ -38,24 +38,24 @@ served-kept start ledger s inv size align at after sized aligning (allocators.fu
     (furthered start ledger s.memory s.live s.given inv size align sized aligning block at first (omega arith) (subst Lawful is lawful))
 served-kept start ledger s inv size align at after sized aligning (allocators.refused unfit cause answer is) lawful = absurd (let z : ◌≡◌ {A = ℕ} 0 1 = cc in omega arith)
 
-pop_kept : (start : Memory) (ledger : Ledger) (s : State) → Inv start ledger s → (span : Span) (older : List Span) → s.live ≡ span ∷ older →
+pop-kept : (start : Memory) (ledger : Ledger) (s : State) → Inv start ledger s → (span : Span) (older : List Span) → s.live ≡ span ∷ older →
     Lawful (popped s.memory span.at) → Inv start (fed ledger removes) (new_state (popped s.memory span.at) older s.given)
-pop_kept start ledger s inv span older newest lawful =
+pop-kept start ledger s inv span older newest lawful =
     popped-inv start ledger s.memory span older s.given (subst (λ l. Inv start ledger (new_state s.memory l s.given)) newest inv) lawful
 
-step_kept : (start : Memory) (ledger : Ledger) {s s' : State} {call : Call} {answer : Answer} → Inv start ledger s → Step s call answer s' → Lawful s'.memory →
+step-kept : (start : Memory) (ledger : Ledger) {s s' : State} {call : Call} {answer : Answer} → Inv start ledger s → Step s call answer s' → Lawful s'.memory →
     Inv start (fed ledger (entry call answer)) s'
-step_kept start ledger inv (refuses why) lawful = inv
-step_kept start ledger {s = s} inv (serves {size = size} {align = align} {at = at} {after = after} sized aligning room rule) lawful =
+step-kept start ledger inv (refuses why) lawful = inv
+step-kept start ledger {s = s} inv (serves {size = size} {align = align} {at = at} {after = after} sized aligning room rule) lawful =
     served-kept start ledger s inv size align at after sized aligning rule lawful
-step_kept start ledger {s = s} inv (pops span older newest there) lawful = pop_kept start ledger s inv span older newest lawful
-step_kept start ledger {s = s} inv (pops_newest span older newest there) lawful = pop_kept start ledger s inv span older newest lawful
-step_kept start ledger inv (loads span offset here less there) lawful = inv
-step_kept start ledger {s = s} inv (stores span offset value here less there) lawful = stored-inv start ledger s inv span offset value here less lawful
+step-kept start ledger {s = s} inv (pops span older newest there) lawful = pop-kept start ledger s inv span older newest lawful
+step-kept start ledger {s = s} inv (pops_newest span older newest there) lawful = pop-kept start ledger s inv span older newest lawful
+step-kept start ledger inv (loads span offset here less there) lawful = inv
+step-kept start ledger {s = s} inv (stores span offset value here less there) lawful = stored-inv start ledger s inv span offset value here less lawful
 
 pub run-kept : (start : Memory) {events : List Event} {s : State} → Trace start events s → Inv start (ledger_of events) s
 run-kept start (started lawful) = opening start lawful
-run-kept start (stepped {earlier = earlier} run step lawful) = step_kept start (ledger_of earlier) (run-kept start run) step lawful
+run-kept start (stepped {earlier = earlier} run step lawful) = step-kept start (ledger_of earlier) (run-kept start run) step lawful
 
 -- a push that does not fit needs more than the capacity
 unfit-needs : (start : Memory) (ledger : Ledger) (m : Memory) (live : List Span) (given : ℕ) → Inv start ledger (new_state m live given) → (size align : ℕ) → Sized size → Aligning align →
@@ -112,17 +112,17 @@ module _ (start : Memory) (ledger : Ledger) (s : State) (inv : Inv start ledger 
 
   -- the allocator refuses no byte of a live span
   live-taken : (span : Span) → Among span s.live → (offset : ℕ) → offset < span.size → taken s.memory (span.at + offset) ≡ true
-  live-taken span here = each_at (Taken s.memory) s.live span (placed-taken start ledger.largest s.memory s.live inv.lawful inv.places) here
+  live-taken span here = each-at (Taken s.memory) s.live span (placed-taken start ledger.largest s.memory s.live inv.lawful inv.places) here
 
   newest-taken : (span : Span) (older : List Span) → s.live ≡ span ∷ older → taken s.memory span.at ≡ true
   newest-taken span older newest =
       let here : Among span s.live = subst (λ l. Among span l) (sym newest) (inl refl) in
-      let some : 0 < span.size = (each_at (Lies s.memory) s.live span lie here).1 in
+      let some : 0 < span.size = (each-at (Lies s.memory) s.live span lie here).1 in
       let e : span.at + 0 ≡ span.at = omega arith in
       subst (λ x. taken s.memory x ≡ true) e (live-taken span here 0 some)
 
-  one_span : (one other : Span) → Among one s.live → Among other s.live → one.grant ≡ other.grant → one ≡ other
-  one_span one other = unique (suc s.given) s.live one other inv.numbered
+  one-span : (one other : Span) → Among one s.live → Among other s.live → one.grant ≡ other.grant → one ≡ other
+  one-span one other = unique (suc s.given) s.live one other inv.numbered
 
 reached : {start : Memory} {ledger : Ledger} {s : State} {call : Call} → Inv start ledger s → Refuses s call (Allocator Address) → ⊥
 reached {start = start} {ledger = ledger} {s = s} inv (pop_untaken span older newest off) = both_ways _ off (newest-taken start ledger s inv span older newest)
@@ -138,10 +138,10 @@ load-reads : {start : Memory} {ledger : Ledger} {grant offset : ℕ} {s s' : Sta
     (span : Span) → Among span s.live → span.grant ≡ grant → (value : ℕ) → offset < span.size → LastStored ledger.stores span.grant offset value → answer ≡ byte value
 load-reads inv (refuses (load_not_live none)) span here e value less last = absurd (none (span, here, e))
 load-reads {start = start} {ledger = ledger} {s = s} inv (refuses (load_outside other there far)) span here e value less last =
-    absurd (omega (arith, ap (λ (x : Span). x.size) (one_span start ledger s inv span other here there e)))
+    absurd (omega (arith, ap (λ (x : Span). x.size) (one-span start ledger s inv span other here there e)))
 load-reads inv (refuses (load_untaken other there less' off)) span here e value less last = absurd (reached inv (load_untaken other there less' off))
 load-reads {start = start} {ledger = ledger} {s = s} inv (loads other offset there less' on) span here e value less last =
-    let same : other.at + offset ≡ span.at + offset = omega (arith, ap (λ (x : Span). x.at) (one_span start ledger s inv span other here there e)) in
+    let same : other.at + offset ≡ span.at + offset = omega (arith, ap (λ (x : Span). x.at) (one-span start ledger s inv span other here there e)) in
     ap (λ x. byte (byte_at s.memory x)) same ∙ ap byte (inv.kept span here offset value less last)
 
 -- no call but a store changes a byte
@@ -151,23 +151,23 @@ served-keeps m size align at after (allocators.further unfit block answer ends i
     ap (λ n. byte_at n x) is ∙ byte_at-further block (memory.full m) x (subst Lawful is lawful).2 (within-full m x ∙ there) ∙ byte_at-full m x
 served-keeps m size align at after (allocators.refused unfit cause answer is) lawful x there = ap (λ n. byte_at n x) is
 
-step_keeps : {s s' : State} {call : Call} {answer : Answer} → Step s call answer s' → Lawful s'.memory → (x : ℕ) → within s.memory x ≡ true → (StoresTo s.live call answer x → ⊥) →
+step-keeps : {s s' : State} {call : Call} {answer : Answer} → Step s call answer s' → Lawful s'.memory → (x : ℕ) → within s.memory x ≡ true → (StoresTo s.live call answer x → ⊥) →
     byte_at s'.memory x ≡ byte_at s.memory x
-step_keeps (refuses why) lawful x there other = refl
-step_keeps {s = s} (serves {size = size} {align = align} {at = at} {after = after} sized aligning room rule) lawful x there other = served-keeps s.memory size align at after rule lawful x there
-step_keeps {s = s} (pops span older newest on) lawful x there other = byte_at-popped s.memory span.at x
-step_keeps {s = s} (pops_newest span older newest on) lawful x there other = byte_at-popped s.memory span.at x
-step_keeps (loads span offset here less on) lawful x there other = refl
-step_keeps {s = s} (stores span offset value here less on) lawful x there other =
+step-keeps (refuses why) lawful x there other = refl
+step-keeps {s = s} (serves {size = size} {align = align} {at = at} {after = after} sized aligning room rule) lawful x there other = served-keeps s.memory size align at after rule lawful x there
+step-keeps {s = s} (pops span older newest on) lawful x there other = byte_at-popped s.memory span.at x
+step-keeps {s = s} (pops_newest span older newest on) lawful x there other = byte_at-popped s.memory span.at x
+step-keeps (loads span offset here less on) lawful x there other = refl
+step-keeps {s = s} (stores span offset value here less on) lawful x there other =
     byte_at-other s.memory (span.at + offset) value x (λ same. other (span, offset, value, here, refl, refl, same))
 
 pub trace_law : (start : Memory) (events : List Event) (s : State) → Trace start events s → Separation (ledger_of events) s × Need start (ledger_of events) s
 trace_law start events s run = (
   record {
     recorded = agrees;
-    unique = λ one other here there. one_span start ledger s inv one other (recorded one here) (recorded other there);
+    unique = λ one other here there. one-span start ledger s inv one other (recorded one here) (recorded other there);
     aligned = ledgers (Each Aligned) inv.aligned;
-    contained = ledgers (Each (InOneBlock s.memory)) (each_map (Lies s.memory) (InOneBlock s.memory) (λ span lies. lies.0) s.live (lie start ledger s inv));
+    contained = ledgers (Each (InOneBlock s.memory)) (each-map (Lies s.memory) (InOneBlock s.memory) (λ span lies. lies.0) s.live (lie start ledger s inv));
     separate = ledgers AllSeparate (placed-separate start ledger.largest s.memory s.live inv.lawful inv.places);
     reached = λ call after step. step-reached inv step;
     reads = λ span among offset value less last.
@@ -176,7 +176,7 @@ trace_law start events s run = (
           λ other after step. load-reads inv step span here refl value less last,
         );
     kept = λ call answer after step lawful at there other.
-        step_keeps step lawful at there (λ (span, offset, value, here, named, answered, same). other (span, offset, value, subst (λ l. Among span l) (sym inv.agrees) here, named, answered, same));
+        step-keeps step lawful at there (λ (span, offset, value, here, named, answered, same). other (span, offset, value, subst (λ l. Among span l) (sym inv.agrees) here, named, answered, same));
   },
   need-holds start ledger s inv,
 )

@@ -14,7 +14,7 @@ use Rattle.session.specs.declared.fault.Fault.TheVariants.{Allocator}
 use Rattle.session.specs.declared.session.Session.{Session}
 use Rattle.session.proofs.Blocks.{length-full}
 use Rattle.session.proofs.Owns.{refusal-own}
-use Rattle.session.proofs.Lives.{served-same, popped-same, stored_same, life_law}
+use Rattle.session.proofs.Lives.{served-same, popped-same, stored-same, life_law}
 use Rattle.session.proofs.Traces.{trace_law}
 
 module _ {A : Type 0} (al : Ghosts A) (growths : A → ℕ) (arena : GrowsAsArena al growths) (first : ℕ) (start : Memory) (earlier : List Event) (most : ℕ) (a a' : A) (sound : al.sound a) (sound' : al.sound a') where
@@ -48,7 +48,7 @@ module _ {A : Type 0} (al : Ghosts A) (growths : A → ℕ) (arena : GrowsAsAren
   life-step {s = s} {s' = s'} e e' reached life (loads span offset here less there) lawful own =
       with-count (ap growths own) (visits life (loads span offset here less there) lawful refl)
   life-step {s = s} {s' = s'} e e' reached life (stores span offset value here less there) lawful own =
-      with-count (arena.stores a a' (own.0.at + offset) value (Ok tt) sound sound' own.3) (visits life (stores span offset value here less there) lawful (stored_same s.memory (span.at + offset) value).count)
+      with-count (arena.stores a a' (own.0.at + offset) value (Ok tt) sound sound' own.3) (visits life (stores span offset value here less there) lawful (stored-same s.memory (span.at + offset) value).count)
 
 module _ {A : Type 0} (al : Ghosts A) (growths : A → ℕ) (arena : GrowsAsArena al growths) (first before : ℕ) (s : Session A) (sound : al.sound s.inner)
     (life : Life first (state al s).memory [] (state al s) (growths s.inner) before) where

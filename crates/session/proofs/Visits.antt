@@ -10,12 +10,12 @@ use Rattle.session.specs.Runs.{Run, opened, visited}
 use Rattle.session.specs.Visits.{Visited, RoundTrip}
 use Rattle.session.specs.declared.fault.Fault.{Fault}
 use Rattle.session.specs.declared.session.Session.{Session}
-use Rattle.session.proofs.Laws.{run_sound}
+use Rattle.session.proofs.Laws.{run-sound}
 use Rattle.session.proofs.Served.{push-refused-for, push-granted, store-answered, pop-answered}
 
 module _ {A : Type 0} (al : Ghosts A) (first s₀ : Session A) (events : List Event) (here : Visited al first events s₀) (value : ℕ) where
   sound₀ : al.sound s₀.inner
-  sound₀ = run_sound al here.sound here.run
+  sound₀ = run-sound al here.sound here.run
 
   pub unserved : (s₁ : Session A) (f : Fault) → Performs al s₀ (push 1 1) (refused f) s₁ → RoundTrip al s₀ value (Err f) s₁
   unserved s₁ f p₁ =

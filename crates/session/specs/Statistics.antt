@@ -23,10 +23,10 @@ tracked allocator =
 
 -- the statistics are the ledger's numbers, and the capacity that they ask for is its need
 pub record Counts (stats : AllocationStats) (ledger : Ledger) : Type 0 where
-  pub live-bytes : stats.bytes_allocated ≡ bytes ledger.live
-  pub live-spans : stats.allocations ≡ length ledger.live
-  pub peak-bytes : stats.max_bytes_allocated ≡ ledger.peak_bytes
-  pub peak-spans : stats.max_allocations ≡ ledger.peak_spans
+  pub live_bytes : stats.bytes_allocated ≡ bytes ledger.live
+  pub live_spans : stats.allocations ≡ length ledger.live
+  pub peak_bytes : stats.max_bytes_allocated ≡ ledger.peak_bytes
+  pub peak_spans : stats.max_allocations ≡ ledger.peak_spans
   pub largest : stats.max_alignment ≡ ledger.largest
   pub capacity : min_capacity stats ≡ need ledger
 

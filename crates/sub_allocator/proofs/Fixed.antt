@@ -23,9 +23,9 @@ module _ (base used : ℕ) (bytes : List ℕ) where
   usable : length (take 140737488355328 bytes) ≡ room bytes
   usable = length-take 140737488355328 bytes ∙ (let e : min 140737488355328 (length bytes) ≡ room bytes = omega arith in e)
 
-  module _ (size align mark top p wanted : ℕ) (mark-is : mark ≡ min used (room bytes)) (top-is : top ≡ based base + mark) (pad-is : p ≡ pad top align) (wanted-is : wanted ≡ p + size) where
+  module _ (size align mark top p wanted : ℕ) (mark_is : mark ≡ min used (room bytes)) (top_is : top ≡ based base + mark) (pad_is : p ≡ pad top align) (wanted-is : wanted ≡ p + size) where
     fits-is : fits (fixed base used bytes) size align ≡ leb wanted (room bytes - mark)
-    fits-is = cc (usable, mark-is, top-is, pad-is, wanted-is)
+    fits-is = cc (usable, mark_is, top_is, pad_is, wanted-is)
 
     pub unfit : room bytes - mark < wanted → Push (fixed base used bytes) size align (Err (DoesNotFit FixedBuffer)) (fixed base used bytes)
     unfit over = refused (fits-is ∙ lt-leb wanted (room bytes - mark) over) FixedBuffer refl refl
@@ -36,7 +36,7 @@ module _ (base used : ℕ) (bytes : List ℕ) where
     pub served : wanted ≤ room bytes - mark → Push (fixed base used bytes) size align (Ok (top + p)) (fixed base (mark + wanted) bytes)
     served under =
         let short : min (mark + wanted) (room bytes) ≡ mark + wanted = omega arith in
-        fitted (fit under) (cc (mark-is, top-is, pad-is)) (cc (short, mark-is, top-is, pad-is, wanted-is))
+        fitted (fit under) (cc (mark_is, top_is, pad_is)) (cc (short, mark_is, top_is, pad_is, wanted-is))
 
   module _ (at i : ℕ) (found : Some i ≡ place_in base used bytes at) where
     on : taken (fixed base used bytes) at ≡ true
@@ -45,8 +45,8 @@ module _ (base used : ℕ) (bytes : List ℕ) where
       | inr no' ↦ absurd (let e = cond-false (taken (fixed base used bytes) at) (Some (at - based base)) None no' in let z : ◌≡◌ {A = ℕ} 0 1 = cc in omega arith)
     ]
 
-    place_is : i ≡ at - based base
-    place_is = let e = cond-true (taken (fixed base used bytes) at) (Some (at - based base)) None on in cc
+    place-is : i ≡ at - based base
+    place-is = let e = cond-true (taken (fixed base used bytes) at) (Some (at - based base)) None on in cc
 
     here : taken_in (one base (min used (room bytes)) bytes) at ≡ true
     here = elim (or_cases (taken_in (one base (min used (room bytes)) bytes) at) false on) [ inl yes' ↦ yes' | inr no' ↦ absurd (both_ways false refl no') ]
@@ -57,34 +57,34 @@ module _ (base used : ℕ) (bytes : List ℕ) where
     high : at < based base + min used (room bytes)
     high = (spans-true (based base) (min used (room bytes)) at here).1
 
-    in_block : inside (one base (min used (room bytes)) bytes) at ≡ true
-    in_block = spans-from (based base) (length (take 140737488355328 bytes)) at low (omega (arith, high, usable))
+    in-block : inside (one base (min used (room bytes)) bytes) at ≡ true
+    in-block = spans-from (based base) (length (take 140737488355328 bytes)) at low (omega (arith, high, usable))
 
     pub pop-found : Pop (fixed base used bytes) at (Ok tt) (fixed base i bytes)
     pop-found =
-        let e : min i (room bytes) ≡ at - based base = omega (arith, high, low, place_is) in
+        let e : min i (room bytes) ≡ at - based base = omega (arith, high, low, place-is) in
         record {
           answer = sym (cond-true (taken (fixed base used bytes) at) (Ok tt) _ on);
           after = ap (λ n. one base n bytes ∷ []) e ∙ ap (λ b. b ∷ []) (sym (cond-true (taken_in (one base (min used (room bytes)) bytes) at) _ _ here));
         }
 
-    pub load_found : Load (fixed base used bytes) at (Ok (get_or bytes i 0))
-    load_found =
+    pub load-found : Load (fixed base used bytes) at (Ok (get_or bytes i 0))
+    load-found =
         let short : at - based base < 140737488355328 = omega (arith, high, low) in
-        let e : get_or bytes i 0 ≡ get_or (take 140737488355328 bytes) (at - based base) 0 = ap (λ n. get_or bytes n 0) place_is ∙ sym (get_or-take 140737488355328 bytes (at - based base) 0 short) in
-        ap Ok (e ∙ sym (cond-true (inside (one base (min used (room bytes)) bytes) at) _ _ in_block)) ∙ sym (cond-true (taken (fixed base used bytes) at) _ _ on)
+        let e : get_or bytes i 0 ≡ get_or (take 140737488355328 bytes) (at - based base) 0 = ap (λ n. get_or bytes n 0) place-is ∙ sym (get_or-take 140737488355328 bytes (at - based base) 0 short) in
+        ap Ok (e ∙ sym (cond-true (inside (one base (min used (room bytes)) bytes) at) _ _ in-block)) ∙ sym (cond-true (taken (fixed base used bytes) at) _ _ on)
 
-    pub stored_is : (byte : ℕ) → set bytes i byte ≡ stored_in base used bytes at byte
-    stored_is byte = ap (λ n. set bytes n byte) place_is ∙ sym (cond-true (taken (fixed base used bytes) at) _ _ on)
+    pub stored-is : (byte : ℕ) → set bytes i byte ≡ stored_in base used bytes at byte
+    stored-is byte = ap (λ n. set bytes n byte) place-is ∙ sym (cond-true (taken (fixed base used bytes) at) _ _ on)
 
-    pub store_found : (byte : ℕ) → Store (fixed base used bytes) at byte (Ok tt) (fixed base used (set bytes i byte))
-    store_found byte =
+    pub store-found : (byte : ℕ) → Store (fixed base used bytes) at byte (Ok tt) (fixed base used (set bytes i byte))
+    store-found byte =
         let long : room (set bytes i byte) ≡ room bytes = ap (λ n. min n 140737488355328) (length-set bytes i byte) in
-        let put : take 140737488355328 (set bytes i byte) ≡ set (take 140737488355328 bytes) (at - based base) byte = take-set 140737488355328 bytes i byte ∙ ap (λ n. set (take 140737488355328 bytes) n byte) place_is in
-        let within-is = cond-true (inside (one base (min used (room bytes)) bytes) at) (set (take 140737488355328 bytes) (at - based base) byte) (take 140737488355328 bytes) in_block in
+        let put : take 140737488355328 (set bytes i byte) ≡ set (take 140737488355328 bytes) (at - based base) byte = take-set 140737488355328 bytes i byte ∙ ap (λ n. set (take 140737488355328 bytes) n byte) place-is in
+        let within_is = cond-true (inside (one base (min used (room bytes)) bytes) at) (set (take 140737488355328 bytes) (at - based base) byte) (take 140737488355328 bytes) in-block in
         record {
           answer = sym (cond-true (taken (fixed base used bytes) at) (Ok tt) _ on);
-          after = ap₂ (λ n xs. record { base = based base; mark = min used n; bytes = xs } ∷ []) long (put ∙ sym within-is) ∙ sym (cond-true (taken (fixed base used bytes) at) _ _ on);
+          after = ap₂ (λ n xs. record { base = based base; mark = min used n; bytes = xs } ∷ []) long (put ∙ sym within_is) ∙ sym (cond-true (taken (fixed base used bytes) at) _ _ on);
         }
 
   -- an address with no place is not taken

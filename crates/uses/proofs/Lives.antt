@@ -22,11 +22,11 @@ use Rattle.session.proofs.Uses.{growth_law}
 use Rattle.uses.specs.Handles.{handle}
 use Rattle.uses.specs.Lives.{Moment, idle, acquired, visited, Life, opened, reopens, shrinks, acquires, visits, tracks, releases, unvisited, Bounded, growths_at, held_at, ArenaLaw, Released}
 use Rattle.uses.proofs.Grows.{handle-grows, tracker-grows}
-use Rattle.uses.proofs.Rests.{Rest, Busy, busy-bounded, rest-shrunk, rest-acquired, busy-released, rest_some}
+use Rattle.uses.proofs.Rests.{Rest, Busy, busy-bounded, rest-shrunk, rest-acquired, busy-released, rest-some}
 
-run_sound : {A : Type 0} (al : allocators.Ghosts A) (begun : Session A) → al.sound begun.inner → {events : List Event} {s : Session A} → Run al begun events s → al.sound s.inner
-run_sound al begun sound runs.opened = sound
-run_sound al begun sound (runs.visited run performs) = (performs (run_sound al begun sound run)).sound
+run-sound : {A : Type 0} (al : allocators.Ghosts A) (begun : Session A) → al.sound begun.inner → {events : List Event} {s : Session A} → Run al begun events s → al.sound s.inner
+run-sound al begun sound runs.opened = sound
+run-sound al begun sound (runs.visited run performs) = (performs (run-sound al begun sound run)).sound
 
 -- a session over an acquired handle, direct or tracked, is a use of the life
 session-busy : {A : Type 0} (al : allocators.Ghosts A) (growths : A → ℕ) → GrowsAsArena al growths → (first most : ℕ) (start : State) (count : ℕ) (begun : Session A) →
@@ -75,7 +75,7 @@ module _ {S : Type 0} (source : Ghosts S) (first : ℕ) where
       let (sound, rest) = life-inv begun some start life in (
         r.kept sound,
         subst (λ (x : arenas.Arena). Rest first x.source.blocks x.blocks x.growths most)
-            (sym ((r.opens sound).again (rest_some first a.growths most (blocks_of a.ring) some a.counted rest.bounds)).1) rest,
+            (sym ((r.opens sound).again (rest-some first a.growths most (blocks_of a.ring) some a.counted rest.bounds)).1) rest,
       )
   life-inv begun some start (shrinks {a = a} {a' = a'} {most = most} life r) =
       let (sound, rest) = life-inv begun some start life in (
@@ -94,7 +94,7 @@ module _ {S : Type 0} (source : Ghosts S) (first : ℕ) where
   life-inv begun some start (visits {h = h} {most = most} {begun = opens} {s = s} {events = events} life same is run) =
       let (sound, here) = life-inv begun some start life in
       let able : HandleSound source.sound source.state opens.inner = subst (λ (k : ArenaHandle S). HandleSound source.sound source.state k) (sym same) sound in (
-        run_sound (handle source) opens able run,
+        run-sound (handle source) opens able run,
         session-busy (handle source) (λ k. k.growths) (handle-grows source) first most (fresh (memory_at source.state h)) h.growths opens able is (ap-growths same) here run,
       )
     where
@@ -103,7 +103,7 @@ module _ {S : Type 0} (source : Ghosts S) (first : ℕ) where
   life-inv begun some start (tracks {h = h} {most = most} {begun = opens} {s = s} {events = events} life same is run) =
       let (sound, here) = life-inv begun some start life in
       let able : HandleSound source.sound source.state opens.inner.inner = subst (λ (k : ArenaHandle S). HandleSound source.sound source.state k) (sym same) sound in (
-        run_sound (tracked (handle source)) opens able run,
+        run-sound (tracked (handle source)) opens able run,
         session-busy (tracked (handle source)) (λ t. t.inner.growths) (tracker-grows source) first most (fresh (memory_at source.state h)) h.growths opens able is
             (subst (λ (x : ArenaHandle S). opens.inner.inner.growths ≡ x.growths) same refl) here run,
       )

@@ -81,6 +81,6 @@ busy-released first bs ps used growths most k r b =
     }
 
 -- a bounded arena has a block
-pub rest_some : (first growths most : ℕ) (ps : List Place) → 0 < first → counted growths ps ≡ true → Bounded first growths most (total ps) → opened ps ≡ true
-rest_some first growths most [] some count b = absurd (omega (arith, b.ungrown (eqb-true growths 0 count)))
-rest_some first growths most (p ∷ ps) some count b = refl
+pub rest-some : (first growths most : ℕ) (ps : List Place) → 0 < first → counted growths ps ≡ true → Bounded first growths most (total ps) → opened ps ≡ true
+rest-some first growths most [] some count b = absurd (omega (arith, b.ungrown (eqb-true growths 0 count)))
+rest-some first growths most (p ∷ ps) some count b = refl

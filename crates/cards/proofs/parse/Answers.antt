@@ -21,7 +21,7 @@ returns-in_err-entries c =
     rw c.from_residual-in_err-entries.ensures (λ capacity es w is.
     let told = c.in_ok-count.ensures.every (length es) capacity (below es) (omega (arith, w.count)) w.small (sym is) in
     let back = sym c.in_ok-sizes.ensures ∙ c.split_at.ensures.back ∙ below-sizes es _ _ told.2 told.0 in
-    c.in_err-entries.ensures es (record { letters-are = sym (c.split_at.ensures.front ∙ below-letters es _ _ told.2 told.0); sizes-are = cc (back); sound = w.sound }))
+    c.in_err-entries.ensures es (record { letters_are = sym (c.split_at.ensures.front ∙ below-letters es _ _ told.2 told.0); sizes_are = cc (back); sound = w.sound }))
 
 pub returns : goal.returns
 returns c =

@@ -2,7 +2,7 @@
 use Rattle.std.proofs.Common.{◌++◌, decimal, sym, ap, ◌∙◌, subst, arith}
 use Rattle.std.specs.Str.Parse.{digits_value}
 use Rattle.cards.specs.Digits.{AllDigits, Canonical}
-use Rattle.cards.proofs.Decimals.{run-digits, run-number, run-rest, run_value, run-canonical}
+use Rattle.cards.proofs.Decimals.{run-digits, run-number, run-rest, run-value, run-canonical}
 use Rattle.cards.proofs.scan.number.Goals as goal
 
 pub returns-then-not-canonical : goal.returns-then-not-canonical
@@ -24,5 +24,5 @@ returns c =
     let found = run-number _ _ run (subst Canonical c.split_at.ensures.front c.if-not-canonical.ensures) in
     record {
       begins = (omega (arith, found.0), found.1 ∙ (λ i. decimal (sym is i) ++ sym back i));
-      every = λ n t ts small low here. (is ∙ run_value _ _ run n t ts small low here, back ∙ run-rest _ _ run n t ts small low here);
+      every = λ n t ts small low here. (is ∙ run-value _ _ run n t ts small low here, back ∙ run-rest _ _ run n t ts small low here);
     }

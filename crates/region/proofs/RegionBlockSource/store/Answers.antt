@@ -1,5 +1,5 @@
 use Rattle.std.proofs.Common.{vec_items, refl}
-use Rattle.region.proofs.Calls.{stores, unstored, stored_is, unstored-is}
+use Rattle.region.proofs.Calls.{stores, unstored, stored-is, unstored-is}
 use Rattle.region.proofs.RegionBlockSource.store.Goals as goal
 
 pub returns-then-not-outstanding : goal.returns-then-not-outstanding
@@ -17,6 +17,6 @@ returns c =
     let low = (c.if-not-outstanding.ensures.bounds refl).0 in
     record {
       kept = λ u. u;
-      own = λ u. stored_is (vec_items r.bytes) r.slots r.count r.requests r.last r.outcome r.apart c.args.at (cc c.outstanding.ensures.answer) c.args.byte;
+      own = λ u. stored-is (vec_items r.bytes) r.slots r.count r.requests r.last r.outcome r.apart c.args.at (cc c.outstanding.ensures.answer) c.args.byte;
       rule = λ u. stores (vec_items r.bytes) r.slots r.count r.requests r.last r.outcome r.apart c.args.at (cc c.outstanding.ensures.answer) c.args.byte low;
     }

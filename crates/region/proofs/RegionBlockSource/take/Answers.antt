@@ -1,7 +1,7 @@
 use Rattle.std.proofs.Common.{◌≡◌, length, vec_items, refl, arith, rules}
 use Rattle.region.specs.Regions.{usable}
 use Rattle.region.proofs.Searches.{served}
-use Rattle.region.proofs.Calls.{refuses, grants, chooses-full, chooses_none, chooses_lowest}
+use Rattle.region.proofs.Calls.{refuses, grants, chooses-full, chooses-none, chooses-lowest}
 use Rattle.region.proofs.RegionBlockSource.take.Goals as goal
 
 pub returns-then-self-eq32 : goal.returns-then-self-eq32
@@ -20,7 +20,7 @@ returns-in_default c =
     let none = rw len at c.in_default.ensures in
     record {
       kept = λ u. u;
-      own = λ u. (chooses_none (vec_items r.bytes) r.slots r.count r.requests r.last r.outcome r.apart c.args.size none, refl);
+      own = λ u. (chooses-none (vec_items r.bytes) r.slots r.count r.requests r.last r.outcome r.apart c.args.size none, refl);
       rule = λ u. refuses (vec_items r.bytes) r.slots r.count r.requests r.last r.outcome r.apart c.args.size (omega arith) (omega arith);
     }
 
@@ -45,6 +45,6 @@ returns c =
     let low = rw len at c.in-Some.ensures in
     record {
       kept = λ u. u;
-      own = λ u. (chooses_lowest (vec_items r.bytes) r.slots r.count r.requests r.last r.outcome r.apart c.args.size c.in-Some.at (omega arith) low, refl);
+      own = λ u. (chooses-lowest (vec_items r.bytes) r.slots r.count r.requests r.last r.outcome r.apart c.args.size c.in-Some.at (omega arith) low, refl);
       rule = λ u. grants (vec_items r.bytes) r.slots r.count r.requests r.last r.outcome r.apart c.args.size c.in-Some.at (omega arith) (omega arith) (omega arith) low;
     }

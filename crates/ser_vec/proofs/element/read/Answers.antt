@@ -1,11 +1,11 @@
 -- Each turn loads the next byte of the element.
 use Rattle.std.proofs.Common.{◌≡◌, ◌<◌, ◌≤◌, length, refl, ◌∙◌, subst, arith, length-set}
 use Rattle.std.proofs.lemmas.Result.{err_from_is_err_and}
-use Rattle.ser_vec.proofs.Loads.{Read, read_none, read_more, read-cut, read_all}
+use Rattle.ser_vec.proofs.Loads.{Read, read-none, read-more, read-cut, read-all}
 use Rattle.ser_vec.proofs.element.read.Goals as goal
 
 pub loop-i-init : goal.loop-i-init
-loop-i-init g c = (refl, λ span room. read_none g.A.Allocator g.K.Kind _ _ span _ _)
+loop-i-init g c = (refl, λ span room. read-none g.A.Allocator g.K.Kind _ _ span _ _)
 
 pub returns-in_err-bytes : goal.returns-in_err-bytes
 returns-in_err-bytes g c =
@@ -21,7 +21,7 @@ loop-i-preserved g c =
     let short : c.loop-i.i < length c.loop-i.bytes = omega arith in (
       length-set c.loop-i.bytes c.loop-i.i c.in_ok-bytes.field-0 ∙ c.loop-i.invariant.0,
       λ span room.
-          read_more g.A.Allocator g.K.Kind c.args.session.now c.args.grant.now.number span c.args.offset room c.loop-i.i less c.loop-i.bytes (c.loop-i.invariant.1 span room)
+          read-more g.A.Allocator g.K.Kind c.args.session.now c.args.grant.now.number span c.args.offset room c.loop-i.i less c.loop-i.bytes (c.loop-i.invariant.1 span room)
           c.in_ok-bytes.field-0 short c.in_ok-bytes.ensures,
     )
 
@@ -30,5 +30,5 @@ returns g c span room =
     let n = g.met.K.Kind.narrow in
     let long : g.K.Kind.wide ≤ length c.loop-i.bytes = omega arith in
     let all : c.loop-i.i ≡ g.K.Kind.wide = omega arith in
-    read_all g.A.Allocator g.K.Kind c.args.session.now c.args.grant.now.number span c.args.offset room c.loop-i.bytes long c.unpack.result c.unpack.ensures
+    read-all g.A.Allocator g.K.Kind c.args.session.now c.args.grant.now.number span c.args.offset room c.loop-i.bytes long c.unpack.result c.unpack.ensures
     (subst (λ k. Read g.A.Allocator g.K.Kind c.args.session.now c.args.grant.now.number span c.args.offset k c.loop-i.bytes) all (c.loop-i.invariant.1 span room))

@@ -3,7 +3,7 @@ use Rattle.std.proofs.Common.{◌≡◌, ℕ, ◌*◌, ◌<◌, List, [], ◌∷
 use Rattle.std.proofs.lemmas.List.{append-nil}
 use Rattle.std.proofs.lemmas.Result.{err_from_is_err_and}
 use Rattle.ser_vec.specs.Elements.{packings, Stored}
-use Rattle.ser_vec.proofs.Stores.{stored-none, stored_more, stored_cut}
+use Rattle.ser_vec.proofs.Stores.{stored-none, stored-more, stored-cut}
 use Rattle.ser_vec.proofs.element.write.Goals as goal
 
 pub loop-i-init : goal.loop-i-init
@@ -17,7 +17,7 @@ returns-in_err-store g c =
     let less : i < 1 * kind.wide = omega (arith, one-mul kind.wide) in
     let value : c.byte.result ≡ get_or (packings kind (c.args.x ∷ [])) i 0 = c.byte.ensures ∙ ap (λ (z : List ℕ). get_or z i 0) (sym (append-nil (kind.packed c.args.x))) in
     rw (p.1, p.2) (λ span room.
-    stored_cut g.A.Allocator c.args.session.now c.args.grant.now.number span c.args.offset (packings kind (c.args.x ∷ [])) (1 * kind.wide) room i c.byte.result less value
+    stored-cut g.A.Allocator c.args.session.now c.args.grant.now.number span c.args.offset (packings kind (c.args.x ∷ [])) (1 * kind.wide) room i c.byte.result less value
     c.loop-i.session c.store.new.self (c.loop-i.invariant span room) c.in_err-store.ensures)
 
 pub loop-i-preserved : goal.loop-i-preserved
@@ -26,7 +26,7 @@ loop-i-preserved g c span room =
     let kind = g.K.Kind in
     let less : i < 1 * kind.wide = omega (arith, one-mul kind.wide) in
     let value : c.byte.result ≡ get_or (packings kind (c.args.x ∷ [])) i 0 = c.byte.ensures ∙ ap (λ (z : List ℕ). get_or z i 0) (sym (append-nil (kind.packed c.args.x))) in
-    stored_more g.A.Allocator c.args.session.now c.args.grant.now.number span c.args.offset (packings kind (c.args.x ∷ [])) (1 * kind.wide) room i c.byte.result less value
+    stored-more g.A.Allocator c.args.session.now c.args.grant.now.number span c.args.offset (packings kind (c.args.x ∷ [])) (1 * kind.wide) room i c.byte.result less value
     c.loop-i.session c.store.new.self (c.loop-i.invariant span room) c.in_ok-store.ensures
 
 pub returns : goal.returns

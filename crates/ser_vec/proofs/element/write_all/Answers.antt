@@ -2,8 +2,8 @@
 use Rattle.std.proofs.Common.{◌≡◌, ◌*◌, ◌<◌, ◌≤◌, length, get_or, subst, arith}
 use Rattle.std.proofs.lemmas.Result.{err_from_is_err_and}
 use Rattle.ser_vec.specs.Elements.{packings, Stored}
-use Rattle.ser_vec.proofs.Packings.{byte-value, below_length}
-use Rattle.ser_vec.proofs.Stores.{stored-none, stored_more, stored_cut}
+use Rattle.ser_vec.proofs.Packings.{byte-value, below-length}
+use Rattle.ser_vec.proofs.Stores.{stored-none, stored-more, stored-cut}
 use Rattle.ser_vec.proofs.element.write_all.Goals as goal
 
 pub loop-i-init : goal.loop-i-init
@@ -13,7 +13,7 @@ pub bounds-xs-i : goal.bounds-xs-i
 bounds-xs-i g c =
     let e : c.width-width.result ≡ g.K.Kind.wide = c.width-width.ensures in
     let some : 0 < c.width-width.result = omega (arith, g.met.K.Kind.narrow.0) in
-    below_length c.args.xs.now c.loop-i.i c.width-width.result some c.loop-i-test.true
+    below-length c.args.xs.now c.loop-i.i c.width-width.result some c.loop-i-test.true
 
 pub offset_bounds-xs-i : goal.offset_bounds-xs-i
 offset_bounds-xs-i g c = omega (arith, bounds-xs-i g c)
@@ -30,7 +30,7 @@ returns-in_err-store g c =
     let value : c.byte.result ≡ get_or (packings kind xs) i 0 =
     byte-value kind.packed kind.wide g.met.K.Kind.exact xs i some less c.width-width.result e c.index-xs-i.result c.index-xs-i.is c.byte.result c.byte.ensures in
     rw (p.1, p.2) (λ span room.
-    stored_cut g.A.Allocator c.args.session.now c.args.grant.now.number span c.args.offset (packings kind xs) (length xs * kind.wide) room i c.byte.result less value
+    stored-cut g.A.Allocator c.args.session.now c.args.grant.now.number span c.args.offset (packings kind xs) (length xs * kind.wide) room i c.byte.result less value
     c.loop-i.session c.store.new.self (c.loop-i.invariant span room) c.in_err-store.ensures)
 
 pub loop-i-preserved : goal.loop-i-preserved
@@ -43,7 +43,7 @@ loop-i-preserved g c span room =
     let less : i < length xs * kind.wide = subst (λ w. i < length xs * w) e c.loop-i-test.true in
     let value : c.byte.result ≡ get_or (packings kind xs) i 0 =
     byte-value kind.packed kind.wide g.met.K.Kind.exact xs i some less c.width-width.result e c.index-xs-i.result c.index-xs-i.is c.byte.result c.byte.ensures in
-    stored_more g.A.Allocator c.args.session.now c.args.grant.now.number span c.args.offset (packings kind xs) (length xs * kind.wide) room i c.byte.result less value
+    stored-more g.A.Allocator c.args.session.now c.args.grant.now.number span c.args.offset (packings kind xs) (length xs * kind.wide) room i c.byte.result less value
     c.loop-i.session c.store.new.self (c.loop-i.invariant span room) c.in_ok-store.ensures
 
 pub returns : goal.returns

@@ -1,4 +1,4 @@
-use Rattle.sub_allocator.proofs.Fixed.{load_found, load-lost}
+use Rattle.sub_allocator.proofs.Fixed.{load-found, load-lost}
 use Rattle.sub_allocator.proofs.SubAllocatorAllocator.load.Goals as goal
 
 pub returns-in_default : goal.returns-in_default
@@ -9,4 +9,4 @@ returns-in_default c u =
 pub returns : goal.returns
 returns c u =
     let s = c.args.self.now in
-    load_found s.base s.used s.bytes.now c.args.at c.in-Some.i c.in-Some.ensures.value
+    load-found s.base s.used s.bytes.now c.args.at c.in-Some.i c.in-Some.ensures.value

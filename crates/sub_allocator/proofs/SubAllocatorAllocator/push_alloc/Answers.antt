@@ -25,14 +25,14 @@ returns c =
     let top = c.base.result + mark in
     let p = c.align_offset-pad.result in
     let wanted = p + c.size.result in
-    let top-is = ap (λ n. n + mark) c.base.ensures.value in
+    let top_is = ap (λ n. n + mark) c.base.ensures.value in
     let wanted-is = ap (λ n. p + n) c.size.ensures.value in
     let under : wanted ≤ room s.bytes.now - mark = omega arith in
-    let room-is = fit s.base s.used s.bytes.now l.size l.align mark top p wanted c.mark-mark.ensures top-is c.align_offset-pad.ensures.value wanted-is under in
-    let push = served s.base s.used s.bytes.now l.size l.align mark top p wanted c.mark-mark.ensures top-is c.align_offset-pad.ensures.value wanted-is under in
+    let room_is = fit s.base s.used s.bytes.now l.size l.align mark top p wanted c.mark-mark.ensures top_is c.align_offset-pad.ensures.value wanted-is under in
+    let push = served s.base s.used s.bytes.now l.size l.align mark top p wanted c.mark-mark.ensures top_is c.align_offset-pad.ensures.value wanted-is under in
     record {
       kept = λ u. u;
-      own = λ u. (room-is, refl, refl);
+      own = λ u. (room_is, refl, refl);
       rule = λ u. push;
       serves = λ u. push-served (fixed-lawful s.base s.used s.bytes.now) (fixed-lawful s.base (mark + wanted) s.bytes.now) l.low push;
     }

@@ -1,5 +1,5 @@
 use Rattle.std.proofs.Common.{refl}
-use Rattle.sub_allocator.proofs.Fixed.{store_found, store-lost, stored_is, unstored-is}
+use Rattle.sub_allocator.proofs.Fixed.{store-found, store-lost, stored-is, unstored-is}
 use Rattle.sub_allocator.proofs.SubAllocatorAllocator.store.Goals as goal
 
 pub returns-in_default : goal.returns-in_default
@@ -18,6 +18,6 @@ returns c =
     let found = c.in-Some.ensures.value in
     record {
       kept = λ u. u;
-      own = λ u. (stored_is s.base s.used s.bytes.now c.args.at c.in-Some.i found c.args.byte, refl);
-      rule = λ u. store_found s.base s.used s.bytes.now c.args.at c.in-Some.i found c.args.byte;
+      own = λ u. (stored-is s.base s.used s.bytes.now c.args.at c.in-Some.i found c.args.byte, refl);
+      rule = λ u. store-found s.base s.used s.bytes.now c.args.at c.in-Some.i found c.args.byte;
     }

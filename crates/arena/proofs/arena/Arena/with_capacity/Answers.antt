@@ -5,7 +5,7 @@ use Rattle.source.specs.Blocks.{Outstanding}
 use Rattle.arena.specs.Arenas.{blocks_of}
 use Rattle.arena.specs.Meaning.{Kept}
 use Rattle.arena.proofs.Table.{least-is}
-use Rattle.arena.proofs.Steps.{dries, fresh, some_of, below-48, opens-asks, opening-some, opening-high, opening-doubles, opening-refused, opening-granted}
+use Rattle.arena.proofs.Steps.{dries, fresh, some-of, below-48, opens-asks, opening-some, opening-high, opening-doubles, opening-refused, opening-granted}
 use Rattle.arena.proofs.arena.Arena.with_capacity.Goals as goal
 
 pub push_next-requires : goal.push_next-requires
@@ -32,7 +32,7 @@ returns-in_err-block g c =
     let empty = c.in_default.ensures in
     let small = c.if-cap-gt16777216.false in
     let least = c.in-Some-least_power.ensures in
-    let some = some_of _ (opening-some s s ps _ _ 0 empty small least) in
+    let some = some-of _ (opening-some s s ps _ _ 0 empty small least) in
     let high = opening-high s s ps _ _ 0 empty small least in
     let asked = c.in_err-block.ensures in
     rw (p.1, p.2)
@@ -59,7 +59,7 @@ returns g c =
     let empty = c.in_default.ensures in
     let small = c.if-cap-gt16777216.false in
     let least = c.in-Some-least_power.ensures in
-    let some = some_of _ (opening-some s s ps _ _ 0 empty small least) in
+    let some = some-of _ (opening-some s s ps _ _ 0 empty small least) in
     let high = opening-high s s ps _ _ 0 empty small least in
     let asked = c.in_ok-block.ensures in
     let linked = c.push_next.ensures in

@@ -6,7 +6,7 @@ use Rattle.source.specs.Blocks.{Outstanding, Place}
 use Rattle.arena.specs.Rings.{counted}
 use Rattle.arena.specs.Meaning.{Kept}
 use Rattle.arena.specs.Arenas.{blocks_of}
-use Rattle.arena.proofs.Steps.{dries, fresh, some_of, below-48, doubles-fit, growths-fit, counts, want, grow-some, grow-doubles, grow-room, over-extends, over-asked, under-asked, refused-extends, granted-extends}
+use Rattle.arena.proofs.Steps.{dries, fresh, some-of, below-48, doubles-fit, growths-fit, counts, want, grow-some, grow-doubles, grow-room, over-extends, over-asked, under-asked, refused-extends, granted-extends}
 use Rattle.arena.proofs.arena.ArenaHandle.grow.Goals as goal
 
 pub overflow_mul-last : goal.overflow_mul-last
@@ -34,7 +34,7 @@ returns-in_err-block g c =
     let s' = g.S.BlockSource.state c.take.new.self in
     let ps = blocks_of h.ring in
     let under = c.if-size-gt67108864.false in
-    let some = some_of _ (grow-some s s ps _ _ _ _ _ _ _ 0 0 c.requires.last c.max-size.ensures c.in-Some.ensures c.size.ensures.value c.align.ensures.value) in
+    let some = some-of _ (grow-some s s ps _ _ _ _ _ _ _ 0 0 c.requires.last c.max-size.ensures c.in-Some.ensures c.size.ensures.value c.align.ensures.value) in
     let size_is = want s s ps _ _ _ _ _ _ _ 0 0 c.requires.last c.max-size.ensures c.in-Some.ensures c.size.ensures.value c.align.ensures.value in
     let asked = c.in_err-block.ensures in
     rw (p.1, p.2)
@@ -87,7 +87,7 @@ returns g c =
     let ps = blocks_of h.ring in
     let ps' = blocks_of c.push_next.new.self in
     let under = c.if-size-gt67108864.false in
-    let some = some_of _ (grow-some s s ps _ _ _ _ _ _ _ 0 0 c.requires.last c.max-size.ensures c.in-Some.ensures c.size.ensures.value c.align.ensures.value) in
+    let some = some-of _ (grow-some s s ps _ _ _ _ _ _ _ 0 0 c.requires.last c.max-size.ensures c.in-Some.ensures c.size.ensures.value c.align.ensures.value) in
     let size_is = want s s ps _ _ _ _ _ _ _ 0 0 c.requires.last c.max-size.ensures c.in-Some.ensures c.size.ensures.value c.align.ensures.value in
     let asked = c.in_ok-block.ensures in
     let linked = c.push_next.ensures in

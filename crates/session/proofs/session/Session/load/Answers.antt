@@ -1,6 +1,6 @@
 use Rattle.std.proofs.Common.{refl}
 use Rattle.std.proofs.lemmas.Result.{err_from_is_err_and}
-use Rattle.session.proofs.Steps.{load_at, load-unaddressed, load-done, load-faulted}
+use Rattle.session.proofs.Steps.{load-at, load-unaddressed, load-done, load-faulted}
 use Rattle.session.proofs.session.Session.load.Goals as goal
 
 pub returns-in_err-at : goal.returns-in_err-at
@@ -18,7 +18,7 @@ returns-in_err-load g c =
     let b = c.in_ok-at.ensures in
     rw (p.1, p.2) (λ sound. record {
       step = load-faulted _ b.span b.among c.args.grant.now.number b.named c.args.offset b.inside c.in_err-load.field-0.0
-          (load_at _ (g.A.Allocator.lawful c.args.self.now.inner sound) c.in_ok-at.at _ b.is _ (c.in_err-load.ensures sound));
+          (load-at _ (g.A.Allocator.lawful c.args.self.now.inner sound) c.in_ok-at.at _ b.is _ (c.in_err-load.ensures sound));
       sound = sound;
       own = refl;
     })
@@ -28,7 +28,7 @@ returns g c sound =
     let b = c.in_ok-at.ensures in
     record {
       step = load-done _ b.span b.among c.args.grant.now.number b.named c.args.offset b.inside _ c.in_ok-load.field-0
-          (load_at _ (g.A.Allocator.lawful c.args.self.now.inner sound) c.in_ok-at.at _ b.is _ (c.in_ok-load.ensures sound)) refl;
+          (load-at _ (g.A.Allocator.lawful c.args.self.now.inner sound) c.in_ok-at.at _ b.is _ (c.in_ok-load.ensures sound)) refl;
       sound = sound;
       own = refl;
     }

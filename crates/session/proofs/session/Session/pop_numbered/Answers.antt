@@ -2,7 +2,7 @@ use Rattle.std.proofs.Common.{◌≡◌, ◌-◌, ◌<◌, ◌≤◌, length, ge
 use Rattle.session.specs.Steps.{IsNewest}
 use Rattle.session.specs.Records.{live}
 use Rattle.session.proofs.Records.{live-none, live-newest}
-use Rattle.session.proofs.Steps.{pop-dead, pop-older, pop-newest}
+use Rattle.session.proofs.Steps.{pop-dead, pop-older, pop-by-grant}
 use Rattle.session.proofs.session.Session.pop_numbered.Goals as goal
 use Rattle.session.proofs.session.Session.pop_numbered.Goals.{then-self-eq0-via-then-self-eq0, then-self-eq0-via-else-self-eq0+then-self-grant}
 
@@ -33,7 +33,7 @@ returns g c sound =
     let named : (get_or s.spans (s.count - 1) c.index-self-self.result).grant ≡ c.args.grant = omega arith in
     let performed = c.pop_newest.ensures sound in
     record {
-      step = pop-newest performed.step _ _ (live-newest s.spans s.count c.index-self-self.result some few) c.args.grant named;
+      step = pop-by-grant performed.step _ _ (live-newest s.spans s.count c.index-self-self.result some few) c.args.grant named;
       sound = performed.sound;
       own = performed.own;
     }

@@ -1,6 +1,6 @@
 use Rattle.std.proofs.Common.{Ok, refl, subst}
 use Rattle.std.proofs.lemmas.Result.{err_from_is_err_and}
-use Rattle.session.proofs.Steps.{accepted, refused-address, store_at, taken_at, store-unaddressed, store-done, store-faulted}
+use Rattle.session.proofs.Steps.{accepted, refused-address, store-at, taken-at, store-unaddressed, store-done, store-faulted}
 use Rattle.session.proofs.Owns.{own-untaken}
 use Rattle.session.proofs.session.Session.store.Goals as goal
 
@@ -19,7 +19,7 @@ returns-in_err-store g c =
     let b = c.in_ok-at.ensures in
     let f = c.in_err-store.field-0.0 in
     rw (p.1, p.2) (λ sound.
-    let rule = store_at _ (g.A.Allocator.lawful c.args.self.now.inner sound) c.in_ok-at.at _ b.is _ _ _ (c.in_err-store.ensures.rule sound) in
+    let rule = store-at _ (g.A.Allocator.lawful c.args.self.now.inner sound) c.in_ok-at.at _ b.is _ _ _ (c.in_err-store.ensures.rule sound) in
     record {
       step = store-faulted _ b.span b.among c.args.grant.now.number b.named c.args.offset c.args.byte b.inside _ _ rule f refl;
       sound = c.in_err-store.ensures.kept sound;
@@ -32,10 +32,10 @@ returns g c sound =
     let inner = c.in_ok-store.ensures in
     let at = c.in_ok-at.at in
     let lawful = g.A.Allocator.lawful c.args.self.now.inner sound in
-    let exact = taken_at _ lawful at _ b.is (accepted _ _ tt tt (inner.rule sound).answer refl) in
+    let exact = taken-at _ lawful at _ b.is (accepted _ _ tt tt (inner.rule sound).answer refl) in
     record {
       step = store-done _ b.span b.among c.args.grant.now.number b.named c.args.offset c.args.byte b.inside _ _
-          (store_at _ lawful at _ b.is _ _ _ (inner.rule sound)) _ refl;
+          (store-at _ lawful at _ b.is _ _ _ (inner.rule sound)) _ refl;
       sound = inner.kept sound;
       own = (b.span, b.among, b.named, subst (λ x. g.A.Allocator.stores c.args.self.now.inner x c.args.byte (Ok tt) c.store.new.self) exact (inner.own sound));
     }
