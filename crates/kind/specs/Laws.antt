@@ -1,26 +1,14 @@
--- The laws of a kind hold of bytes, positions and cues: how long a packing is, that it is bytes, and that it is unpacked again.
+-- The laws of kinds that need a proof of some length: each element is unpacked again, and a cue's packing has its width and is bytes.
 use Rattle.std.proofs.Common.{◌≡◌, ℕ, ◌%◌, ◌^◌, List, ◌++◌, length, take, drop, refl}
 use Rattle.kind.specs.Bytes.{little_endian, number, below_power, AllBytes}
 use Rattle.kind.specs.declared.element.Byte.{Byte}
 use Rattle.kind.specs.declared.element.Position.{Position}
 use Rattle.kind.specs.declared.element.Cue.{Cue}
-use Rattle.kind.specs.Endian.{length-little_endian, bytes-little_endian, bytes-append}
+use Rattle.kind.specs.Endian.{bytes-little_endian, bytes-append}
 use Rattle.kind.specs.Elements.{byte-same, position-same, cue-same, number-packed}
-
-pub byte-exact : (x : Byte) → length (little_endian 1 x.value) ≡ 1
-byte-exact x = length-little_endian 1 x.value
-
-pub byte-bytes : (x : Byte) → AllBytes (little_endian 1 x.value)
-byte-bytes x = bytes-little_endian 1 x.value
 
 pub byte-again : (x : Byte) → ◌≡◌ {A = Byte} (record { value = number (take 1 (little_endian 1 x.value)) % 2 ^ 8; fits = below_power 8 (number (take 1 (little_endian 1 x.value))) }) x
 byte-again x = byte-same (number-packed 1 8 x.value refl x.fits) _ _
-
-pub position-exact : (x : Position) → length (little_endian 4 x.at) ≡ 4
-position-exact x = length-little_endian 4 x.at
-
-pub position-bytes : (x : Position) → AllBytes (little_endian 4 x.at)
-position-bytes x = bytes-little_endian 4 x.at
 
 pub position-again : (x : Position) → ◌≡◌ {A = Position} (record { at = number (take 4 (little_endian 4 x.at)) % 2 ^ 32; fits = below_power 32 (number (take 4 (little_endian 4 x.at))) }) x
 position-again x = position-same (number-packed 4 32 x.at refl x.fits) _ _

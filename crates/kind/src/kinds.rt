@@ -2,7 +2,8 @@
 ghost use Rattle.std.specs.Prelude.{ℕ, ◌%◌, ◌^◌, ◌<◌, List, [], ◌∷◌, ◌++◌, get_or, take, drop, refl};
 ghost use Rattle.kind.specs.Bytes.{little_endian, number, below_power};
 ghost use Rattle.std.proofs.Common.{lit<, lit≤};
-ghost use Rattle.kind.specs.Laws.{byte-exact, byte-bytes, byte-again, position-exact, position-bytes, position-again, cue-exact, cue-bytes, cue-again};
+ghost use Rattle.kind.specs.Endian.{length-little_endian, bytes-little_endian};
+ghost use Rattle.kind.specs.Laws.{byte-again, position-again, cue-exact, cue-bytes, cue-again};
 
 use crate::Kind;
 use crate::element::{Byte, Cue, Position};
@@ -20,9 +21,9 @@ impl Kind for Byte {
 
     ghost aligning = { ((0, refl), lit≤ tt) };
 
-    ghost exact = { byte-exact };
+    ghost exact = { λ b. length-little_endian 1 b.value };
 
-    ghost bytes = { byte-bytes };
+    ghost bytes = { λ b. bytes-little_endian 1 b.value };
 
     ghost again = { byte-again };
 
@@ -56,9 +57,9 @@ impl Kind for Position {
 
     ghost aligning = { ((2, refl), lit≤ tt) };
 
-    ghost exact = { position-exact };
+    ghost exact = { λ p. length-little_endian 4 p.at };
 
-    ghost bytes = { position-bytes };
+    ghost bytes = { λ p. bytes-little_endian 4 p.at };
 
     ghost again = { position-again };
 
