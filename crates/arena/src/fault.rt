@@ -1,8 +1,10 @@
 // Why an arena is not opened.
-ghost use Rattle.std.specs.Prelude.{◌≡◌};
-ghost use Rattle.arena.specs.Faults.{refusal, fault_of};
+ghost use Rattle.std.specs.Prelude.{◌≡◌, Some};
+ghost use Rattle.arena.specs.Faults.{refusal, refusal_text, fault_of};
 
 use source::SourceFault;
+use std::error::Error;
+use std::fmt;
 
 #[derive(Clone, Copy, Debug, PartialEq, Eq)]
 pub enum ArenaFault {
@@ -25,6 +27,17 @@ impl ArenaFault {
         }
     }
 }
+
+impl fmt::Display for ArenaFault {
+    ghost output = { λ f. Some (refusal_text f) };
+
+    fn fmt<W: fmt::Write>(&self, f: &mut fmt::Formatter<W>) -> fmt::Result {
+        let number = self.number();
+        write!(f, "refused {number}")
+    }
+}
+
+impl Error for ArenaFault {}
 
 impl From<SourceFault> for ArenaFault {
     ghost from_gives = { λ e f. f ≡ fault_of e };
