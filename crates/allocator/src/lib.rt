@@ -19,10 +19,8 @@ pub trait Allocator {
     // What the allocator stands for.
     ghost blocks: { Self → Memory };
 
-    // The states that it can come to, where its type alone cannot say so: a constructor makes such a one, and every call keeps it so.
-    ghost sound: { Self → Type 0 };
-
-    ghost lawful: { (a : Self) → sound a → Lawful (blocks a) };
+    // Every value of the type keeps the rules of memory: what a call needs to know of its allocator stands in the allocator's own type.
+    ghost lawful: { (a : Self) → Lawful (blocks a) };
 
     // What is true of this allocator's pushes, pops and stores beyond the rules of all: which block it took and what it asked of a source, or what it counted.
     ghost pushes: { Self → ℕ → ℕ → Result ℕ AllocatorFault → Self → Type 0 };
@@ -33,25 +31,22 @@ pub trait Allocator {
 
     // Allocates scratch space that fits the layout, and answers its address.
     fn push_alloc(&mut self, layout: Layout) -> Result<usize, Fault>
-        ensures kept { sound self.old → sound self.new }
-        ensures own { sound self.old → pushes self.old layout.size layout.align result self.new }
-        ensures rule { sound self.old → Push (blocks self.old) layout.size layout.align result (blocks self.new) }
-        ensures serves { sound self.old → Served (blocks self.old) layout.size layout.align result (blocks self.new) };
+        ensures own { pushes self.old layout.size layout.align result self.new }
+        ensures rule { Push (blocks self.old) layout.size layout.align result (blocks self.new) }
+        ensures serves { Served (blocks self.old) layout.size layout.align result (blocks self.new) };
 
     // Gives back the scratch space at that address, and what was pushed on top of it.
     fn pop_alloc(&mut self, at: usize, layout: Layout) -> Result<(), Fault>
-        ensures kept { sound self.old → sound self.new }
-        ensures own { sound self.old → pops self.old at layout.size result self.new }
-        ensures rule { sound self.old → Pop (blocks self.old) at result (blocks self.new) }
-        ensures undoes { sound self.old → Undoes at (blocks self.old) result (blocks self.new) };
+        ensures own { pops self.old at layout.size result self.new }
+        ensures rule { Pop (blocks self.old) at result (blocks self.new) }
+        ensures undoes { Undoes at (blocks self.old) result (blocks self.new) };
 
     fn load(&self, at: usize) -> Result<u8, Fault>
-        ensures { sound self.now → Load (blocks self.now) at result };
+        ensures { Load (blocks self.now) at result };
 
     fn store(&mut self, at: usize, byte: u8) -> Result<(), Fault>
-        ensures kept { sound self.old → sound self.new }
-        ensures own { sound self.old → stores self.old at byte result self.new }
-        ensures rule { sound self.old → Store (blocks self.old) at byte result (blocks self.new) };
+        ensures own { stores self.old at byte result self.new }
+        ensures rule { Store (blocks self.old) at byte result (blocks self.new) };
 }
 
 // Statistics for the allocations that were accepted.
@@ -136,8 +131,6 @@ impl<T> AllocationTracker<T> {
 
 impl<T: Allocator> Allocator for AllocationTracker<T> {
     ghost blocks = { λ t. T.Allocator.blocks t.inner };
-
-    ghost sound = { λ t. T.Allocator.sound t.inner };
 
     ghost lawful = { λ t. T.Allocator.lawful t.inner };
 

@@ -1,8 +1,8 @@
 -- What a source of blocks stands for: its outstanding blocks with their bytes, the newest first, and what was asked of it.
-use Rattle.std.specs.Prelude.{◌≡◌, ℕ, ◌+◌, ◌-◌, ◌%◌, ◌^◌, ◌<◌, ◌≤◌, Bool, true, false, cond, ◌||◌, List, [], ◌∷◌, length, ◌==◌, slice_index, slice_set}
+use Rattle.std.specs.Prelude.{◌≡◌, ℕ, ◌+◌, ◌-◌, ◌%◌, ◌^◌, ◌<◌, ◌≤◌, Bool, true, false, cond, ◌||◌, List, [], ◌∷◌, length, Some, None, Option, ◌==◌, slice_index, slice_set}
 use Rattle.allocator.specs.Memory.{spans}
-use Rattle.source.specs.declared.outcome.Outcome.{Outcome}
-use Rattle.source.specs.declared.outcome.Outcome.TheVariants as outcome
+use Rattle.source.specs.declared.request.Outcome.TheVariants.{Granted, Refused}
+use Rattle.source.specs.declared.request.Request.{Request}
 
 -- where a block lies
 pub record Place : Type 0 where
@@ -14,12 +14,11 @@ pub record Outstanding : Type 0 where
   pub base : ℕ
   pub bytes : List ℕ
 
--- the requests are counted modulo 2^64; of the last one there are the size and the outcome
+-- the requests are counted modulo 2^64; of the last one, once there is one, there are the size and the outcome
 pub record Source : Type 0 where
   pub blocks : List Outstanding
   pub requests : ℕ
-  pub last : ℕ
-  pub outcome : Outcome
+  pub last : Option Request
 
 abbrev pub places : List Outstanding → List Place
 places [] = []
@@ -77,16 +76,16 @@ Lawful (b ∷ bs) = Sound b × Apart b bs × Lawful bs
 
 -- a source that nothing was asked of
 abbrev pub untouched : Source
-untouched = record { blocks = []; requests = 0; last = 0; outcome = outcome.Unasked }
+untouched = record { blocks = []; requests = 0; last = None }
 
 -- the source with those blocks in place of its own, and nothing asked
 abbrev pub having : Source → List Outstanding → Source
-having s bs = record { blocks = bs; requests = s.requests; last = s.last; outcome = s.outcome }
+having s bs = record { blocks = bs; requests = s.requests; last = s.last }
 
 -- the source once a request was granted, by that block
 abbrev pub granted : Source → Outstanding → Source
-granted s b = record { blocks = b ∷ s.blocks; requests = (s.requests + 1) % 2 ^ 64; last = length b.bytes; outcome = outcome.Granted }
+granted s b = record { blocks = b ∷ s.blocks; requests = (s.requests + 1) % 2 ^ 64; last = Some (record { size = length b.bytes; outcome = Granted }) }
 
 -- the source once a request of that size was refused
 abbrev pub refused : Source → ℕ → Source
-refused s size = record { blocks = s.blocks; requests = (s.requests + 1) % 2 ^ 64; last = size; outcome = outcome.Refused }
+refused s size = record { blocks = s.blocks; requests = (s.requests + 1) % 2 ^ 64; last = Some (record { size = size; outcome = Refused }) }

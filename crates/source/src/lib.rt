@@ -7,10 +7,10 @@ ghost use Rattle.source.specs.Answers.{Take, Give, Load, Store};
 ghost use Rattle.source.specs.declared.fault.SourceFault.{SourceFault as Refusal};
 
 mod fault;
-mod outcome;
+mod request;
 
 pub use fault::SourceFault;
-pub use outcome::Outcome;
+pub use request::{Outcome, Request};
 
 // Blocks of memory, taken and given back in any order. The rules leave three things open: the address of a block, its bytes at first, and whether a
 // request is refused.
@@ -18,10 +18,8 @@ pub trait BlockSource {
     // What the source stands for.
     ghost state: { Self → Source };
 
-    // The states that it can come to, where its type alone cannot say so: a constructor makes such a one, and every call keeps it so.
-    ghost sound: { Self → Type 0 };
-
-    ghost lawful: { (s : Self) → sound s → Lawful (state s).blocks };
+    // Every value of the type keeps the rules of sources: what a call needs to know of its source stands in the source's own type.
+    ghost lawful: { (s : Self) → Lawful (state s).blocks };
 
     // What is true of this source beyond the rules of all: its answers to requests, and what else a block given back and a store leave or change.
     ghost chooses: { Self → ℕ → Result ℕ Refusal → Self → Type 0 };
@@ -32,21 +30,18 @@ pub trait BlockSource {
 
     // Takes a block of that many bytes, and answers its address.
     fn take(&mut self, size: usize) -> Result<usize, SourceFault>
-        ensures kept { sound self.old → sound self.new }
-        ensures own { sound self.old → chooses self.old size result self.new }
-        ensures rule { sound self.old → Take (state self.old) size result (state self.new) };
+        ensures own { chooses self.old size result self.new }
+        ensures rule { Take (state self.old) size result (state self.new) };
 
     // Gives back the block at that address.
     fn give(&mut self, base: usize) -> Result<(), SourceFault>
-        ensures kept { sound self.old → sound self.new }
-        ensures own { sound self.old → gives self.old base result self.new }
-        ensures rule { sound self.old → Give (state self.old) base result (state self.new) };
+        ensures own { gives self.old base result self.new }
+        ensures rule { Give (state self.old) base result (state self.new) };
 
     fn load(&self, at: usize) -> Result<u8, SourceFault>
-        ensures { sound self.now → Load (state self.now) at result };
+        ensures { Load (state self.now) at result };
 
     fn store(&mut self, at: usize, byte: u8) -> Result<(), SourceFault>
-        ensures kept { sound self.old → sound self.new }
-        ensures own { sound self.old → stores self.old at byte result self.new }
-        ensures rule { sound self.old → Store (state self.old) at byte result (state self.new) };
+        ensures own { stores self.old at byte result self.new }
+        ensures rule { Store (state self.old) at byte result (state self.new) };
 }

@@ -79,9 +79,7 @@ impl<'a> SubAllocator<'a> {
 impl<'a> Allocator for SubAllocator<'a> {
     ghost blocks = { λ s. fixed s.base s.used s.bytes.now };
 
-    ghost sound = { λ _. Unit {0} };
-
-    ghost lawful = { λ s _. fixed-lawful s.base s.used s.bytes.now };
+    ghost lawful = { λ s. fixed-lawful s.base s.used s.bytes.now };
 
     // It has no further block. The buffer behind it stays the caller's, and only stores change it.
     ghost pushes = { λ s size align r t. Alone (fixed s.base s.used s.bytes.now) size align r × (t.bytes.now ≡ s.bytes.now) × (t.bytes.ghost_name ≡ s.bytes.ghost_name) };

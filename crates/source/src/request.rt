@@ -1,0 +1,12 @@
+// A request to a source: how many bytes it asked for, and what became of it.
+#[derive(Clone, Copy, Debug, PartialEq, Eq)]
+pub enum Outcome {
+    Granted,
+    Refused,
+}
+
+#[derive(Clone, Copy, Debug, PartialEq, Eq)]
+pub struct Request {
+    pub size: usize,
+    pub outcome: Outcome,
+}
