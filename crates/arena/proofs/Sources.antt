@@ -1,12 +1,14 @@
 -- The blocks of an arena while its source grants further blocks, stores bytes and takes blocks back.
-use Rattle.std.proofs.Common.{◌≡◌, ℕ, ◌+◌, ◌-◌, ◌<◌, ◌≤◌, Bool, true, false, cond, eqb, List, [], ◌∷◌, length, get_or, drop, set, sym, refl, ap, ◌∙◌, inl, inr, arith, length-drop, length-set}
+use Rattle.std.proofs.Common.{◌≡◌, ℕ, ◌+◌, ◌-◌, ◌<◌, ◌≤◌, Bool, true, false, cond, eqb, List, [], ◌∷◌, length, get_or, drop, set, Result, sym, refl, ap, ◌∙◌, subst, inl, inr, arith, length-drop, length-set}
 use Rattle.std.proofs.lemmas.List.{drop-set-lt, drop-set-add, get_or-drop}
 use Rattle.std.proofs.lemmas.Bool.{true≢false, cases_Bool, cases_lt, or_cases, eqb-true, cond-true, cond-false, both_ways}
 use Rattle.allocator.specs.Memory.{Memory, spans}
 use Rattle.allocator.specs.Memory as memory
 use Rattle.allocator.proofs.Spans.{spans-true, spans-from}
+use Rattle.source.specs.Answers.{Store}
+use Rattle.source.specs.declared.fault.SourceFault.{SourceFault}
 use Rattle.source.specs.Blocks.{Outstanding, Place, Source, Apart, Lawful, inside, within, without, contents, byte_at, stored, having}
-use Rattle.arena.specs.Rings.{rising, room}
+use Rattle.arena.specs.Rings.{rising, room, newest, before}
 use Rattle.arena.specs.Meaning.{usable, olders, memory_of, Differs, Kept}
 use Rattle.arena.specs.Arenas.{given_back}
 use Rattle.arena.specs.Keeps.{rise, contents-other, within-contents, usable-length}
@@ -107,6 +109,13 @@ stored-kept bs at v (p ∷ ps) k = (ap length (stored-contents bs p.base at v) �
     same true = length-set (contents bs p.base) (at - p.base) v
     same false = refl
 
+pub store-kept : (s s' : Source) (at v : ℕ) (r : Result (Unit {0}) SourceFault) (ps : List Place) → Store s at v r s' → Kept s.blocks ps → Kept s'.blocks ps
+store-kept s s' at v r ps w k = subst (λ (x : Source). Kept x.blocks ps) (sym w.after) (either (within s.blocks at))
+  where
+    either : (t : Bool) → Kept (cond t (having s (stored s.blocks at v)) s).blocks ps
+    either true = stored-kept s.blocks at v ps k
+    either false = k
+
 -- the same byte, in the arena's memory
 stored-usable : (bs : List Outstanding) (p : Place) (mark at v : ℕ) → usable (stored bs at v) p mark ≡ memory.written (usable bs p mark) at v
 stored-usable bs p mark at v = ap (λ (xs : List ℕ). record { base = p.base + 16; mark = mark; bytes = xs }) (ap (drop 16) (stored-contents bs p.base at v) ∙ past)
@@ -151,5 +160,7 @@ pub given-contents : (s : Source) (ps : List Place) (a : ℕ) → Differs a ps �
 given-contents s [] a d = refl
 given-contents s (p ∷ ps) a d = given-contents (having s (without s.blocks p.base)) ps a d.1 ∙ without-contents s.blocks a p.base d.0
 
-pub shrunk-kept : (s : Source) (p : Place) (ps : List Place) → Kept s.blocks (p ∷ ps) → Kept (given_back s ps).blocks (p ∷ [])
-shrunk-kept s p ps k = (ap length (given-contents s ps p.base k.1) ∙ k.0, tt, tt)
+-- once the older blocks were given back, the newest is outstanding still
+pub shrunk-kept : (s : Source) (ps : List Place) → Kept s.blocks ps → Kept (given_back s (before ps)).blocks (newest ps)
+shrunk-kept s [] k = tt
+shrunk-kept s (p ∷ ps) k = (ap length (given-contents s ps p.base k.1) ∙ k.0, tt, tt)

@@ -1,30 +1,35 @@
 -- The steps of an arena: what a request comes to, and a push, as any allocator's.
-use Rattle.std.proofs.Common.{◌≡◌, ℕ, suc, ◌+◌, ◌-◌, ◌*◌, ◌%◌, ◌^◌, ◌<◌, ◌≤◌, max, Bool, true, false, ltb, leb, List, [], ◌∷◌, length, drop, Ok, Err, Result, sym, refl, ap, ◌∙◌, subst, ap₂, inl, inr, arith, pow_mono, w64, Fits, rules}
+use Rattle.std.proofs.Common.{add-zero, ◌≡◌, ℕ, suc, ◌+◌, ◌-◌, ◌*◌, ◌^◌, ◌<◌, ◌≤◌, max, Bool, true, false, ltb, leb, List, [], ◌∷◌, length, drop, Ok, Err, Result, Some, None, Option, sym, refl, ap, ◌∙◌, subst, ap₂, inl, inr, arith, pow_mono, w64, Fits, rules}
 use native.Mathlib.Nat.{two-pow-succ}
-use Rattle.std.proofs.lemmas.Bool.{cases_lt, and_from, or_parts, le-leb, lt-ltb, lt-leb, leb-true, eqb-true, cond-true, both_ways}
+use mir.Val.{bool_byte}
+use Rattle.std.specs.Option.{MatchOption, ok_or}
+use Rattle.std.proofs.lemmas.Bool.{cases_Bool, cases_lt, and_from, or_parts, le-leb, lt-ltb, lt-leb, leb-true, eqb-true, cond-true, cond-false, both_ways}
 use Rattle.allocator.specs.Layouts.{pad}
 use Rattle.allocator.specs.Memory.{Block, Memory, taken_in, taken, popped, fits, full}
-use Rattle.allocator.specs.Answers.{Push, fitted, further, refused, Pop}
+use Rattle.allocator.specs.Answers.{asked, Push, fitted, further, refused, Pop}
 use Rattle.allocator.proofs.Spans.{spans-from}
 use Rattle.allocator.specs.declared.fault.Cause.TheVariants as cause
 use Rattle.allocator.specs.declared.fault.Fault.{Fault}
-use Rattle.allocator.specs.declared.fault.Fault.TheVariants.{DoesNotFit}
+use Rattle.allocator.specs.declared.fault.Fault.TheVariants.{DoesNotFit, Address}
 use Rattle.source.specs.Answers.{Take, Load, Store, sized}
 use Rattle.source.specs.Blocks.{Outstanding, Place, Source, within, byte_at, contents, granted}
-use Rattle.source.specs.Blocks as blocks
 use Rattle.source.specs.declared.fault.SourceFault.{SourceFault}
-use Rattle.source.specs.declared.fault.SourceFault.TheVariants as source
-use Rattle.arena.specs.Rings.{rising, opened, room, counted, newest_size}
+use Rattle.arena.specs.Rings.{rising, opened, room, counted, newest, newest_size}
 use Rattle.arena.specs.Meaning.{usable, olders, memory_of, Kept}
-use Rattle.arena.specs.Powers.{LeastPower, wanted}
-use Rattle.arena.specs.Arenas.{Arena, Consulted}
+use Rattle.arena.specs.Powers.{LeastPower, least_power_of, wanted}
+use Rattle.arena.specs.Arenas.{Arena, Consulted, Taken, Takes, dry}
 use Rattle.arena.specs.Arenas as arenas
-use Rattle.arena.specs.Calls.{Marked, Extends, Opens, opening, pushing}
+use Rattle.arena.specs.Calls.{Begins, Marked, Extends, Opens, opening, pushing, answered}
 use Rattle.arena.specs.Faults as faults
+use Rattle.arena.specs.declared.fault.ArenaFault.{ArenaFault}
 use Rattle.source.specs.Faults as sources
 use Rattle.arena.specs.Keeps.{rise, contents-same, usable-length}
 use Rattle.arena.proofs.Table.{least-is, least-small}
 use Rattle.arena.proofs.Sources.{granted-differs, granted-kept, granted-olders, full-olders}
+
+unopened-size : (ps : List Place) → opened ps ≡ false → newest_size ps ≡ 0
+unopened-size [] e = refl
+unopened-size (p ∷ ps) e = absurd (both_ways true e refl)
 
 pub room-small : (ps : List Place) → rising ps ≡ true → room ps ≤ 67108864
 room-small [] r = omega arith
@@ -43,43 +48,36 @@ module _ (s s' : Source) (size : ℕ) (some : 0 < size) (small : size ≤ 671088
   sized-true : sized size ≡ true
   sized-true = and_from (ltb 0 size) (leb size 67108864) (lt-ltb 0 size some) (le-leb size 67108864 small)
 
-  -- the block is put before the others, at the address as the arena holds it
-  pub record Fresh (ps ps' : List Place) (at : ℕ) : Type 0 where
-    pub bytes : List ℕ
-    pub many : length bytes ≡ size
-    pub low : at % 281474976710656 ≡ at
-    pub kept : Kept s'.blocks ps'
-    pub begun : (growths : ℕ) → record { source = s'; blocks = ps'; growths = growths } ≡ arenas.begun (record { source = s; blocks = ps; growths = growths }) (record { base = at; bytes = bytes })
-    pub grown : (growths : ℕ) → record { source = s'; blocks = ps'; growths = growths + 1 } ≡ arenas.grown (record { source = s; blocks = ps; growths = growths }) (record { base = at; bytes = bytes })
+  -- the block is beside those of the arena
+  pub record Fresh (ps : List Place) (at : ℕ) : Type 0 where
+    pub low : at < 2 ^ 48
+    pub kept : Kept s'.blocks (record { base = at; size = size } ∷ ps)
+    pub taken : (growths : ℕ) → Taken (record { source = s; blocks = ps; growths = growths }) size at (record { source = s'; blocks = record { base = at; size = size } ∷ ps; growths = growths + bool_byte (opened ps) })
 
-  pub fresh : (ps ps' : List Place) (at : ℕ) → ps' ≡ record { base = at % 281474976710656; size = size } ∷ ps → Kept s.blocks ps → rising ps ≡ true → Take s size (Ok at) s' → Fresh ps ps' at
-  fresh ps ps' at first k r t =
+  pub fresh : (ps : List Place) (at : ℕ) → Kept s.blocks ps → rising ps ≡ true → Take s size (Ok at) s' → Fresh ps at
+  fresh ps at k r t =
       let g = t.asks sized-true in
+      let b : Outstanding = record { base = at; bytes = g.bytes } in
       let many = g.many in
       let high = g.sound.high in
-      let low : at % 281474976710656 ≡ at = omega arith in
       let e : s'.blocks ≡ record { base = at; bytes = g.bytes } ∷ s.blocks = ap (λ (x : Source). x.blocks) g.after in
-      let f : ps' ≡ record { base = at; size = size } ∷ ps = first ∙ ap (λ (n : ℕ). record { base = n; size = size } ∷ ps) low in
-      let f' : ps' ≡ record { base = at; size = length g.bytes } ∷ ps = f ∙ ap (λ (n : ℕ). record { base = at; size = n } ∷ ps) (sym many) in
-      let d = granted-differs (record { base = at; bytes = g.bytes }) s.blocks ps (omega arith) g.apart k r in
-      let kept : Kept (record { base = at; bytes = g.bytes } ∷ s.blocks) (record { base = at; size = size } ∷ ps) =
-      (ap length (contents-same (record { base = at; bytes = g.bytes }) s.blocks) ∙ many, d, granted-kept (record { base = at; bytes = g.bytes }) s.blocks ps d k) in
+      let d = granted-differs b s.blocks ps (omega arith) g.apart k r in
       record {
-        bytes = g.bytes;
-        many = many;
-        low = low;
-        kept = subst (λ (qs : List Place). Kept s'.blocks qs) (sym f) (subst (λ (bs : List Outstanding). Kept bs (record { base = at; size = size } ∷ ps)) (sym e) kept);
-        begun = λ n. ap₂ (λ (x : Source) (qs : List Place). record { source = x; blocks = qs; growths = n }) g.after f';
-        grown = λ n. ap₂ (λ (x : Source) (qs : List Place). record { source = x; blocks = qs; growths = n + 1 }) g.after f';
+        low = omega arith;
+        kept =
+            subst (λ (bs : List Outstanding). Kept bs (record { base = at; size = size } ∷ ps)) (sym e)
+            (ap length (contents-same b s.blocks) ∙ many, d, granted-kept b s.blocks ps d k);
+        taken = λ n. record { bytes = g.bytes; many = many; after = extends ps n g.bytes many g.after };
       }
+    where
+      extends : (ps : List Place) (n : ℕ) (bytes : List ℕ) → length bytes ≡ size → s' ≡ granted s (record { base = at; bytes = bytes }) →
+          ◌≡◌ {A = Arena} (record { source = s'; blocks = record { base = at; size = size } ∷ ps; growths = n + bool_byte (opened ps) }) (arenas.extended (record { source = s; blocks = ps; growths = n }) (record { base = at; bytes = bytes }))
+      extends [] n bytes many e = rw (e, many, add-zero n) refl
+      extends (p ∷ ps) n bytes many e = rw (e, many) refl
 
-  pub record Dry (fault : SourceFault) : Type 0 where
-    pub is : fault ≡ source.NoBlock
-    pub after : s' ≡ blocks.refused s size
-    pub same : s'.blocks ≡ s.blocks
-
-  pub dries : (fault : SourceFault) → Take s size (Err fault) s' → Dry fault
-  dries fault t = let g = t.asks sized-true in record { is = g.0; after = g.1; same = ap (λ (x : Source). x.blocks) g.1 }
+  -- or the source refused it
+  pub dries : (ps : List Place) (growths : ℕ) (fault : SourceFault) → Take s size (Err fault) s' → Takes (record { source = s; blocks = ps; growths = growths }) size (Err fault) (record { source = s'; blocks = ps; growths = growths })
+  dries ps growths fault t = let g = t.asks sized-true in (g.0, rw g.1 refl)
 
 -- the source loads and stores each byte that is within its blocks
 pub never-loads : (s : Source) (at : ℕ) (fault : SourceFault) → within s.blocks at ≡ true → Load s at (Err fault) → ⊥
@@ -96,16 +94,24 @@ few-growths n (p ∷ ps) c r =
     let s = (rise p ps r).small in
     elim (cases_lt 22 n) [ inl h ↦ (let j : 27 ≤ n + 4 = omega arith in let m : 2 ^ 27 ≤ 2 ^ (n + 4) = pow_mono j in absurd (omega arith)) | inr h ↦ h ]
 
-pub counts : (n size : ℕ) (ps : List Place) → counted n ps ≡ true → opened ps ≡ true → 2 * newest_size ps ≤ size → leb (2 ^ (n + 1 + 4)) size ≡ true
-counts n size [] c o d = absurd (both_ways false refl o)
-counts n size (p ∷ ps) c o d =
+-- with one more block they are one more, unless it is the first
+pub counts : (n size : ℕ) (ps : List Place) → counted n ps ≡ true → 16 ≤ size → 2 * newest_size ps ≤ size → leb (2 ^ (n + bool_byte (opened ps) + 4)) size ≡ true
+counts n size [] c some d =
+    let e = eqb-true n 0 c in
+    let m : 2 ^ (n + 0 + 4) ≡ 16 = rw e refl in
+    le-leb (2 ^ (n + 0 + 4)) size (omega arith)
+counts n size (p ∷ ps) c some d =
     let a = leb-true (2 ^ (n + 4)) p.size c in
     let e : n + 1 + 4 ≡ suc (n + 4) = omega arith in
     le-leb (2 ^ (n + 1 + 4)) size (rw e (omega (arith, two-pow-succ (n + 4))))
 
-pub first-counts : (n size : ℕ) (ps : List Place) → counted n ps ≡ true → opened ps ≡ false → 16 ≤ size → leb (2 ^ (n + 4)) size ≡ true
-first-counts n size [] c o some = let e = eqb-true n 0 c in let m : 2 ^ (n + 4) ≡ 16 = rw e refl in le-leb (2 ^ (n + 4)) size (omega arith)
-first-counts n size (p ∷ ps) c o some = absurd (both_ways true o refl)
+pub newest-counts : (n : ℕ) (ps : List Place) → counted n ps ≡ true → counted n (newest ps) ≡ true
+newest-counts n [] c = c
+newest-counts n (p ∷ ps) c = c
+
+pub growths-fit : (n : ℕ) (ps : List Place) → counted n ps ≡ true → rising ps ≡ true → Fits w64 (n + bool_byte (opened ps))
+growths-fit n [] c r = let few = few-growths n [] c r in search rules
+growths-fit n (p ∷ ps) c r = let few = few-growths n (p ∷ ps) c r in search rules
 
 -- a push without a block
 pub unserved : (bs : List Outstanding) (ps : List Place) (used size align : ℕ) → ps ≡ [] → Push (memory_of bs ps used) size align (Err (DoesNotFit cause.Unopened)) (memory_of bs ps used)
@@ -170,9 +176,6 @@ popped-newest bs ps p qs used at first on low high =
 pub wanted-is : (n last least size align s a : ℕ) → n ≡ max (2 * last) least → LeastPower (16 + s + a) least → s ≡ size → a ≡ align → n ≡ wanted last size align
 wanted-is n last least size align s a m l e f = rw (sym e, sym f) (m ∙ ap (λ (x : ℕ). max (2 * last) x) (least-is (16 + s + a) least l))
 
-pub first-is : (held block padding align : ℕ) → held ≡ block → padding ≡ pad (held + 16) align → held + 16 + padding ≡ block + 16 + pad (block + 16) align
-first-is held block padding align e f = rw (f, e) refl
-
 -- whether a push asks its source
 pub asks-not : (ps : List Place) (b : Bool) (size align : ℕ) → b ≡ true → pushing ps b size align ≡ false
 asks-not [] b size align e = refl
@@ -186,99 +189,122 @@ pub consulted-push : {S : Type 0} {chooses : S → ℕ → Result ℕ SourceFaul
     Consulted chooses (leb (wanted p.size size align) 67108864) s (wanted p.size size align) answer s' → Consulted chooses (pushing ps b size align) s (wanted (newest_size ps) size align) answer s'
 consulted-push ps p qs b size align first off q = rw (first, off) q
 
-pub opens-asks : (ps : List Place) (cap : ℕ) → ps ≡ [] → cap ≤ 16777216 → opening ps cap ≡ true
-opens-asks ps cap none small = rw none (le-leb cap 16777216 small)
-
 pub cons-opened : (ps qs : List Place) (p : Place) → ps ≡ p ∷ qs → opened ps ≡ true
 cons-opened ps qs p e = ap opened e
-
-pub nil-opened : (ps : List Place) → ps ≡ [] → opened ps ≡ false
-nil-opened ps e = ap opened e
 
 -- the numbers of an arena are small
 pub doubles-fit : (last : ℕ) (ps : List Place) → newest_size ps ≡ last → rising ps ≡ true → Fits w64 (2 * last)
 doubles-fit last ps e r = let small = newest-small ps r in search rules
 
-pub growths-fit : (n : ℕ) (ps : List Place) → counted n ps ≡ true → rising ps ≡ true → Fits w64 (n + 1)
-growths-fit n ps c r = let few = few-growths n ps c r in search rules
+-- what `ok_or` passed on, and what it refused
+pub ok-some : {X E : Type 0} (N : Type 0) (P : X → Type 0) (o : Option X) (x : X) (e : E) → Ok x ≡ ok_or o e → MatchOption o N P → P x
+ok-some N P None x e is m = let z : ◌≡◌ {A = ℕ} 0 1 = cc in absurd (omega arith)
+ok-some N P (Some y) x e is m = let same : y ≡ x = cc in subst P same m
 
-pub some-of : (n : ℕ) → 16 ≤ n → 0 < n
-some-of n h = omega arith
+pub err-none : {X E : Type 0} (N : Type 0) (P : X → Type 0) (o : Option X) (f e : E) → Err f ≡ ok_or o e → MatchOption o N P → N × (f ≡ e)
+err-none N P None f e is m = (m, cc)
+err-none N P (Some y) f e is m = let z : ◌≡◌ {A = ℕ} 0 1 = cc in absurd (omega arith)
 
-pub below-48 : (n : ℕ) → n % 281474976710656 < 2 ^ 48
-below-48 n = omega arith
+pub least-some : {E : Type 0} (n : ℕ) (o : Option ℕ) (x : ℕ) (e : E) → Ok x ≡ ok_or o e → MatchOption o (67108864 < n) (LeastPower n) → LeastPower n x
+least-some n o x e is m = ok-some (67108864 < n) (LeastPower n) o x e is m
+
+-- an address that was not refused is taken, and one that was is not
+pub asked-taken : (m : Memory) (at : ℕ) {x : Unit {0}} → Ok x ≡ asked m at tt → taken m at ≡ true
+asked-taken m at is = elim (cases_Bool (taken m at)) [ inl on ↦ on | inr off ↦ (let e : ◌≡◌ {A = Result (Unit {0}) Fault} (Ok tt) (Err Address) = is ∙ cond-false _ _ _ off in let z : ◌≡◌ {A = ℕ} 0 1 = cc in absurd (omega arith)) ]
+
+pub asked-untaken : (m : Memory) (at : ℕ) (f : Fault) → ◌≡◌ {A = Result (Unit {0}) Fault} (Err f) (asked m at tt) → (taken m at ≡ false) × (f ≡ Address)
+asked-untaken m at f is = elim (cases_Bool (taken m at)) [
+  | inl on ↦ (let e : ◌≡◌ {A = Result (Unit {0}) Fault} (Err f) (Ok tt) = is ∙ cond-true _ _ _ on in let z : ◌≡◌ {A = ℕ} 0 1 = cc in absurd (omega arith))
+  | inr off ↦ (let e : ◌≡◌ {A = Result (Unit {0}) Fault} (Err f) (Err Address) = is ∙ cond-false _ _ _ off in (off, cc))
+]
+
+-- what a source was asked, and what it answered
+pub asked-so : {S : Type 0} {chooses : S → ℕ → Result ℕ SourceFault → S → Type 0} {asked : Bool} {s s' : S} {want want' : ℕ} {answer answer' : Result ℕ SourceFault} →
+    asked ≡ true → want ≡ want' → answer ≡ answer' → chooses s want answer s' → Consulted chooses asked s want' answer' s'
+asked-so {chooses = chooses} {s = s} {s' = s'} {want' = want'} {answer = answer} on want_is answer_is c =
+    record {
+      chosen = λ _. subst (λ (r : Result ℕ SourceFault). chooses s want' r s') answer_is (subst (λ (w : ℕ). chooses s w answer s') want_is c);
+      same = λ off. absurd (both_ways _ off on);
+    }
+
+pub not-asked : {S : Type 0} {chooses : S → ℕ → Result ℕ SourceFault → S → Type 0} {asked : Bool} {s s' : S} {want : ℕ} {answer : Result ℕ SourceFault} →
+    asked ≡ false → s' ≡ s → Consulted chooses asked s want answer s'
+not-asked off e = record { chosen = λ on. absurd (both_ways _ off on); same = λ _. e }
+
+extended-blocks : (a : Arena) (b : Outstanding) → (arenas.extended a b).blocks ≡ record { base = b.base; size = length b.bytes } ∷ a.blocks
+extended-blocks a b = elim (cases_Bool (opened a.blocks)) [ inl e ↦ rw e refl | inr e ↦ rw e refl ]
+
+pub taken-blocks : (a a' : Arena) (want at : ℕ) → Taken a want at a' → a'.blocks ≡ record { base = at; size = want } ∷ a.blocks
+taken-blocks a a' want at t = ap (λ (x : Arena). x.blocks) t.after ∙ (extended-blocks a _ ∙ ap (λ (n : ℕ). record { base = at; size = n } ∷ a.blocks) t.many)
+
+-- the answer of a request, as it is read off what became of it
+pub answered-ok : {X : Type 0} (E : Type 0) (x : X) (a a' : Arena) (want at : ℕ) → Taken a want at a' → Ok at ≡ answered {X = X} {E = E} (Ok x) a'.blocks
+answered-ok E x a a' want at t = rw (taken-blocks a a' want at t) refl
 
 -- an opening that asked the source
-module _ (s s' : Source) (ps : List Place) (cap size growths : ℕ) (empty : ps ≡ []) (small : cap ≤ 16777216) (l : LeastPower (cap + 16) size) where
+module _ (a a' : Arena) (cap size : ℕ) (empty : opened a.blocks ≡ false) (small : cap ≤ 16777216) (l : LeastPower (cap + 16) size) where
   pub opening-some : 16 ≤ size
   opening-some = omega (arith, l.above)
 
   pub opening-high : size ≤ 67108864
   opening-high = least-small (cap + 16) size l (omega arith)
 
-  pub opening-doubles : 2 * newest_size ps ≤ size
-  opening-doubles = let e = ap newest_size empty in omega arith
+  pub opening-doubles : 2 * newest_size a.blocks ≤ size
+  opening-doubles = let e = unopened-size a.blocks empty in omega arith
 
-  again' : {X : Type 0} → opened ps ≡ true → X
-  again' o = absurd (both_ways (opened ps) (ap opened empty) o)
+  pub opening-asks : opening a.blocks cap ≡ true
+  opening-asks = rw empty (le-leb cap 16777216 small)
 
-  pub opening-refused : {some : 0 < size} {high : size ≤ 67108864} (fault : SourceFault) → Dry s s' size some high fault → Opens (record { source = s; blocks = ps; growths = growths }) cap (Err (faults.fault_of fault)) (record { source = s'; blocks = ps; growths = growths })
-  opening-refused fault d =
-      record {
-        again = again';
-        large = λ _ h. absurd (omega arith);
-        asks = λ _ _. (ap faults.fault_of d.is, ap (λ (x : Source). record { source = x; blocks = ps; growths = growths }) (d.after ∙ ap (λ (n : ℕ). blocks.refused s n) (least-is (cap + 16) size l)));
-      }
+  opens : {r : Result (Unit {0}) ArenaFault} → Begins a (least_power_of (cap + 16)) r a' → Opens a cap r a'
+  opens b = record { again = λ o. absurd (both_ways (opened a.blocks) empty o); large = λ _ h. absurd (omega arith); asks = λ _ _. b }
 
-  pub opening-granted : {some : 0 < size} {high : size ≤ 67108864} (ps' : List Place) (at : ℕ) → Fresh s s' size some high ps ps' at → Opens (record { source = s; blocks = ps; growths = growths }) cap (Ok tt) (record { source = s'; blocks = ps'; growths = growths })
-  opening-granted ps' at f =
-      record {
-        again = again';
-        large = λ _ h. absurd (omega arith);
-        asks = λ _ _. record { at = at; bytes = f.bytes; many = f.many ∙ least-is (cap + 16) size l; after = f.begun growths };
-      }
+  pub opens-refused : (fault : SourceFault) → Takes a size (Err fault) a' → Opens a cap (Err (faults.fault_of fault)) a'
+  opens-refused fault t = opens (ap faults.fault_of t.0, t.1 ∙ ap (λ (n : ℕ). dry a n) (least-is (cap + 16) size l))
+
+  pub opens-granted : (at : ℕ) → Takes a size (Ok at) a' → Opens a cap (Ok tt) a'
+  opens-granted at t = opens (record { at = at; bytes = t.bytes; many = t.many ∙ least-is (cap + 16) size l; after = t.after ∙ cond-false _ _ _ empty })
 
 -- a push beyond the newest block, for which the arena wants one of n bytes
-module _ (s s' : Source) (ps : List Place) (n last least size align sz al used growths : ℕ) (last_is : newest_size ps ≡ last) (n_is : n ≡ max (2 * last) least) (l : LeastPower (16 + sz + al) least) (sz_is : sz ≡ size) (al_is : al ≡ align) where
+module _ (a a' : Arena) (n last least size align sz al used : ℕ) (some : opened a.blocks ≡ true) (last_is : newest_size a.blocks ≡ last) (n_is : n ≡ max (2 * last) least) (l : LeastPower (16 + sz + al) least) (sz_is : sz ≡ size) (al_is : al ≡ align) where
   pub want : n ≡ wanted last size align
   want = wanted-is n last least size align sz al n_is l sz_is al_is
 
-  want' : n ≡ wanted (newest_size ps) size align
+  want' : n ≡ wanted (newest_size a.blocks) size align
   want' = want ∙ ap (λ (x : ℕ). wanted x size align) (sym last_is)
 
   pub grow-some : 16 ≤ n
   grow-some = omega (arith, l.above)
 
-  pub grow-doubles : 2 * newest_size ps ≤ n
+  pub grow-doubles : 2 * newest_size a.blocks ≤ n
   grow-doubles = omega arith
 
-  -- it has room for the span and its padding
-  pub grow-room : (p : Place) (qs rs : List Place) (padding sz' : ℕ) → rs ≡ p ∷ qs → p.size ≡ n → padding < align → sz' ≡ size → padding + sz' ≤ room rs
-  grow-room p qs rs padding sz' first size_is short many = let e = ap room first in omega (arith, l.above)
-
-  pub over-extends : 67108864 < n → Extends (record { source = s; blocks = ps; growths = growths }) used size align (Err (DoesNotFit cause.BlockLimit)) (record { source = s; blocks = ps; growths = growths }) used
+  pub over-extends : 67108864 < n → Extends a used size align (Err (DoesNotFit cause.BlockLimit)) a used
   over-extends over = record { beyond = λ _. (refl, refl); asks = λ under. absurd (omega (arith, want')); marked = refl }
 
   pub over-asked : 67108864 < n → leb (wanted last size align) 67108864 ≡ false
   over-asked over = lt-leb _ _ (omega (arith, want))
 
-  pub under-asked : n ≤ 67108864 → leb (wanted last size align) 67108864 ≡ true
-  under-asked under = le-leb _ _ (omega (arith, want))
+  module _ (under : n ≤ 67108864) where
+    pub under-asked : leb (wanted last size align) 67108864 ≡ true
+    under-asked = le-leb _ _ (omega (arith, want))
 
-  module _ (some : 0 < n) (under : n ≤ 67108864) where
-    pub refused-extends : (fault : SourceFault) → Dry s s' n some under fault → Extends (record { source = s; blocks = ps; growths = growths }) used size align (Err (sources.fault_of fault)) (record { source = s'; blocks = ps; growths = growths }) used
-    refused-extends fault d =
+    pub refused-extends : (fault : SourceFault) → Takes a n (Err fault) a' → Extends a used size align (Err (sources.fault_of fault)) a' used
+    refused-extends fault t =
         record {
           beyond = λ over. absurd (omega (arith, want'));
-          asks = λ _. (ap sources.fault_of d.is, ap (λ (x : Source). record { source = x; blocks = ps; growths = growths }) (d.after ∙ ap (λ (m : ℕ). blocks.refused s m) want'));
+          asks = λ _. (ap sources.fault_of t.0, t.1 ∙ ap (λ (m : ℕ). dry a m) want');
           marked = refl;
         }
 
-    pub granted-extends : (ps' : List Place) (at padding sz' : ℕ) → Fresh s s' n some under ps ps' at → ps' ≡ record { base = at % 281474976710656; size = n } ∷ ps → padding ≡ pad (at % 281474976710656 + 16) align → sz' ≡ size →
-        Extends (record { source = s; blocks = ps; growths = growths }) used size align (Ok (at % 281474976710656 + 16 + padding)) (record { source = s'; blocks = ps'; growths = growths + 1 }) (padding + sz')
-    granted-extends ps' at padding sz' f first pad_is many =
-        record {
-          beyond = λ over. absurd (omega (arith, want'));
-          asks = λ _. record { block = at; bytes = f.bytes; many = f.many ∙ want'; first = first-is _ _ _ _ f.low pad_is; after = f.grown growths };
-          marked = subst (λ (qs : List Place). Marked used size (Ok (at % 281474976710656 + 16 + padding)) qs (padding + sz')) (sym first) (omega arith);
-        }
+    module _ (at padding sz' : ℕ) (t : Takes a n (Ok at) a') (pad_is : padding ≡ pad (at + 16) align) (many : sz' ≡ size) where
+      -- it has room for the span and its padding
+      pub grow-room : padding < align → padding + sz' ≤ room a'.blocks
+      grow-room short = let e = ap room (taken-blocks a a' n at t) in omega (arith, l.above)
+
+      pub granted-extends : Extends a used size align (Ok (at + 16 + padding)) a' (padding + sz')
+      granted-extends =
+          record {
+            beyond = λ over. absurd (omega (arith, want'));
+            asks = λ _. record { block = at; bytes = t.bytes; many = t.many ∙ want'; first = ap (λ (k : ℕ). at + 16 + k) pad_is; after = t.after ∙ cond-true _ _ _ some };
+            marked = subst (λ (qs : List Place). Marked used size (Ok (at + 16 + padding)) qs (padding + sz')) (sym (taken-blocks a a' n at t)) (omega arith);
+          }

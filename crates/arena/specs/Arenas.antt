@@ -1,10 +1,10 @@
 -- What an arena stands for, idle or in use: its source, its blocks and its count of growths.
-use Rattle.std.specs.Prelude.{◌≡◌, ℕ, ◌+◌, Bool, true, false, List, [], ◌∷◌, length, Result}
+use Rattle.std.specs.Prelude.{◌≡◌, ℕ, ◌+◌, Bool, true, false, cond, List, [], ◌∷◌, length, Ok, Err, Result}
 use Rattle.source.specs.Blocks.{Source, Outstanding, Place, having, without, granted, refused}
 use Rattle.source.specs.declared.fault.SourceFault.{SourceFault}
+use Rattle.source.specs.declared.fault.SourceFault.TheVariants.{NoBlock}
 use Rattle.arena.specs.declared.ring.Ring.{Ring}
-use Rattle.arena.specs.Rings.{chain, newest, before}
-use Rattle.arena.specs.Meaning.{Kept}
+use Rattle.arena.specs.Rings.{chain, newest, before, opened}
 
 -- the blocks, the newest first; growths counts those that were granted after the first one, over the arena's life
 pub record Arena : Type 0 where
@@ -18,11 +18,6 @@ blocks_of r = chain r.records r.len
 abbrev pub arena_of : Source → Ring → ℕ → Arena
 arena_of s r growths = record { source = s; blocks = blocks_of r; growths = growths }
 
--- the source is sound, and each block of the ring is outstanding there
-pub record Tied (sound : Type 0) (s : Source) (r : Ring) : Type 0 where
-  pub source : sound
-  pub kept : Kept s.blocks (blocks_of r)
-
 abbrev pub unopened : Source → Arena
 unopened s = record { source = s; blocks = []; growths = 0 }
 
@@ -33,6 +28,10 @@ begun a b = record { source = granted a.source b; blocks = record { base = b.bas
 -- it granted a further block
 abbrev pub grown : Arena → Outstanding → Arena
 grown a b = record { source = granted a.source b; blocks = record { base = b.base; size = length b.bytes } ∷ a.blocks; growths = a.growths + 1 }
+
+-- it granted a block: a growth, unless it is the first
+abbrev pub extended : Arena → Outstanding → Arena
+extended a b = cond (opened a.blocks) (grown a b) (begun a b)
 
 -- it refused a block of that size
 abbrev pub dry : Arena → ℕ → Arena
@@ -56,3 +55,14 @@ pub record Consulted {S : Type 0} (chooses : S → ℕ → Result ℕ SourceFaul
 pub data Gave {S : Type 0} (gives : S → ℕ → Result (Unit {0}) SourceFault → S → Type 0) : S → List Place → S → Type 0 where
   done : {s : S} → Gave gives s [] s
   next : {s t u : S} {p : Place} {ps : List Place} {answer : Result (Unit {0}) SourceFault} → gives s p.base answer t → Gave gives t ps u → Gave gives s (p ∷ ps) u
+
+-- a block of that size and address was taken, with bytes of the source's choice
+pub record Taken (a : Arena) (want at : ℕ) (a' : Arena) : Type 0 where
+  pub bytes : List ℕ
+  pub many : length bytes ≡ want
+  pub after : a' ≡ extended a (record { base = at; bytes = bytes })
+
+-- or the source refused it
+abbrev pub Takes : Arena → ℕ → Result ℕ SourceFault → Arena → Type 0
+Takes a want (Ok at) a' = Taken a want at a'
+Takes a want (Err fault) a' = (fault ≡ NoBlock) × (a' ≡ dry a want)

@@ -1,5 +1,7 @@
 -- What the blocks of an arena are as the memory of an allocator, and what ties them to the source.
 use Rattle.std.specs.Prelude.{◌≡◌, ℕ, ◌+◌, ◌-◌, List, [], ◌∷◌, length, drop, ◌≢◌}
+use mathlib.Core.HLevel.{Unit-prop, ¬_prop, ×_prop, ×₃_prop}
+use native.Mathlib.Nat.{ℕ_set}
 use Rattle.allocator.specs.Memory.{Block, Memory}
 use Rattle.source.specs.Blocks.{Outstanding, Place, contents}
 
@@ -26,3 +28,12 @@ Differs at (p ∷ ps) = (at ≢ p.base) × Differs at ps
 abbrev pub Kept : List Outstanding → List Place → Type 0
 Kept bs [] = Unit {0}
 Kept bs (p ∷ ps) = (length (contents bs p.base) ≡ p.size) × Differs p.base ps × Kept bs ps
+
+Differs-prop : (at : ℕ) (ps : List Place) → IsProp (Differs at ps)
+Differs-prop at [] = Unit-prop
+Differs-prop at (p ∷ ps) = ×_prop ¬_prop (Differs-prop at ps)
+
+-- it has one proof at most, so that it may stand in a type
+pub Kept-prop : (bs : List Outstanding) (ps : List Place) → IsProp (Kept bs ps)
+Kept-prop bs [] = Unit-prop
+Kept-prop bs (p ∷ ps) = ×₃_prop (ℕ_set _ _) (Differs-prop p.base ps) (Kept-prop bs ps)

@@ -2,7 +2,7 @@
 ghost use Rattle.std.specs.Prelude.{◌≡◌, ℕ, ◌*◌, ◌^◌, ◌<◌, ◌≤◌, true, List, [], ◌∷◌, MatchOption};
 ghost use Rattle.allocator.specs.Memory.{taken};
 ghost use Rattle.source.specs.Blocks.{Outstanding};
-ghost use Rattle.arena.specs.Rings.{nth, chain, Linked, rising, Newest, newest_size, newest, total};
+ghost use Rattle.arena.specs.Rings.{nth, chain, Linked, rising, Newest, opened, newest_size, newest, total};
 ghost use Rattle.arena.specs.Meaning.{olders, memory_of};
 
 use crate::record::BlockRecord;
@@ -30,6 +30,13 @@ impl Ring {
             records: [nothing; 23],
             len: 0,
         }
+    }
+
+    // Is there a block?
+    pub(crate) fn opened(&self) -> bool
+        ensures { result ≡ opened (chain self.now.records self.now.len) }
+    {
+        self.len != 0
     }
 
     pub(crate) fn len(&self) -> usize

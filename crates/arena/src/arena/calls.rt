@@ -1,26 +1,27 @@
 // The calls of an arena and of its handle.
-ghost use Rattle.std.specs.Prelude.{◌≡◌, ℕ, ◌+◌, ◌≤◌, true, nat_le};
+ghost use Rattle.std.specs.Prelude.{◌≡◌, ℕ, ◌+◌, ◌*◌, ◌≤◌, true, nat_le};
 ghost use Rattle.allocator.specs.Memory.{fits, taken};
 ghost use Rattle.arena.specs.Rings.{room, total, opened, newest_size, before, chain};
-ghost use Rattle.arena.specs.Arenas.{blocks_of, unopened, shrunk, given_back, Consulted, Gave};
+ghost use Rattle.arena.specs.Arenas.{blocks_of, unopened, shrunk, given_back, Consulted, Gave, Takes};
+ghost use Rattle.allocator.specs.Answers.{asked};
+ghost use Rattle.source.specs.Answers.{Store};
 ghost use Rattle.arena.specs.Calls.{answered, Opens, opening, Extends, Pushes, pushing, putting, Put};
 ghost use Rattle.arena.specs.Keeps.{memory-lawful};
 ghost use Rattle.arena.specs.Powers.{least_power_of, wanted};
-ghost use Rattle.arena.specs.Views.{idle_of, handle_of, memory_at, IdleSound, HandleSound};
+ghost use Rattle.arena.specs.Views.{idle_of, handle_of, memory_at};
 
 use super::{Arena, ArenaHandle};
 use crate::fault::ArenaFault;
 use crate::power::least_power;
 use crate::ring::Ring;
 use allocator::{Allocator, Cause, Fault, Layout};
-use source::BlockSource;
+use source::{BlockSource, SourceFault};
 
 // Gives the n oldest blocks of the ring back, the newest of them first.
 fn give_back<S: BlockSource>(source: &mut S, ring: &Ring, n: usize)
     requires { n ≤ ring.now.len }
-    ensures kept { S.sound source.old → S.sound source.new }
-    ensures own { S.sound source.old → Gave S.gives source.old (chain ring.now.records n) source.new }
-    ensures state { S.sound source.old → S.state source.new ≡ given_back (S.state source.old) (chain ring.now.records n) }
+    ensures own { Gave S.gives source.old (chain ring.now.records n) source.new }
+    ensures state { S.state source.new ≡ given_back (S.state source.old) (chain ring.now.records n) }
 {
     let mut k = n;
     while k > 0 {
@@ -36,7 +37,6 @@ impl<S: BlockSource> Arena<S> {
 
     // An arena that is not opened yet.
     pub fn new(source: S) -> Arena<S>
-        ensures kept { S.sound source → IdleSound S.sound S.state result }
         ensures source { result.source ≡ source }
         ensures state { idle_of S.state result ≡ unopened (S.state source) }
     {
@@ -49,30 +49,50 @@ impl<S: BlockSource> Arena<S> {
 
     // Opens the arena with at least the requested capacity.
     pub fn with_capacity(&mut self, cap: usize) -> Result<(), ArenaFault>
-        ensures kept { IdleSound S.sound S.state self.old → IdleSound S.sound S.state self.new }
-        ensures opens { IdleSound S.sound S.state self.old → Opens (idle_of S.state self.old) cap result (idle_of S.state self.new) }
-        ensures consulted { IdleSound S.sound S.state self.old → Consulted S.chooses (opening (blocks_of self.old.ring) cap) self.old.source (least_power_of (cap + 16)) (answered result (blocks_of self.new.ring)) self.new.source }
+        ensures opens { Opens (idle_of S.state self.old) cap result (idle_of S.state self.new) }
+        ensures consulted { Consulted S.chooses (opening (blocks_of self.old.ring) cap) self.old.source (least_power_of (cap + 16)) (answered result (blocks_of self.new.ring)) self.new.source }
     {
-        if let Some(_) = self.ring.tail() {
+        if self.ring.opened() {
             return Err(ArenaFault::AlreadyOpened);
         }
         if cap > 16777216 {
             return Err(ArenaFault::Capacity);
         }
-        let Some(size) = least_power(cap + 16) else {
-            return Err(ArenaFault::Capacity);
-        };
-        let block = self.source.take(size)?;
-        self.ring.push_next(block % 281474976710656, size);
+        let size = least_power(cap + 16).ok_or(ArenaFault::Capacity)?;
+        self.take(size)?;
         Ok(())
+    }
+
+    // Takes a block of that size, at least twice as large as the newest.
+    fn take(&mut self, size: usize) -> Result<usize, SourceFault>
+        requires some { 16 ≤ size }
+        requires small { size ≤ 67108864 }
+        requires doubles { 2 * newest_size (blocks_of self.old.ring) ≤ size }
+        ensures takes { Takes (idle_of S.state self.old) size result (idle_of S.state self.new) }
+        ensures own { S.chooses self.old.source size result self.new.source }
+    {
+        let at = self.source.take(size)?;
+        // every block but the first is a growth
+        self.growths += usize::from(self.ring.opened());
+        self.ring.push_next(at, size);
+        Ok(at)
+    }
+
+    // Stores a byte of one of the source's blocks.
+    fn store(&mut self, at: usize, byte: u8) -> Result<(), SourceFault>
+        ensures rule { Store (S.state self.old.source) at byte result (S.state self.new.source) }
+        ensures own { S.stores self.old.source at byte result self.new.source }
+        ensures ring { self.new.ring ≡ self.old.ring }
+        ensures growths { self.new.growths ≡ self.old.growths }
+    {
+        self.source.store(at, byte)
     }
 
     // Gives back all blocks but the newest, and answers its usable length.
     pub fn shrink(&mut self) -> usize
-        ensures kept { IdleSound S.sound S.state self.old → IdleSound S.sound S.state self.new }
         ensures answer { result ≡ room (blocks_of self.old.ring) }
-        ensures state { IdleSound S.sound S.state self.old → idle_of S.state self.new ≡ shrunk (idle_of S.state self.old) }
-        ensures gave { IdleSound S.sound S.state self.old → Gave S.gives self.old.source (before (blocks_of self.old.ring)) self.new.source }
+        ensures state { idle_of S.state self.new ≡ shrunk (idle_of S.state self.old) }
+        ensures gave { Gave S.gives self.old.source (before (blocks_of self.old.ring)) self.new.source }
     {
         let Some(b) = self.ring.tail() else {
             return 0;
@@ -109,31 +129,19 @@ impl<S: BlockSource> Arena<S> {
 
     // Shrinks the arena, and acquires a handle to it. Nothing of its newest block is taken.
     pub fn acquire(self) -> ArenaHandle<S>
-        ensures kept { IdleSound S.sound S.state self → HandleSound S.sound S.state result }
         ensures mark { result.used ≡ 0 }
-        ensures state { IdleSound S.sound S.state self → handle_of S.state result ≡ shrunk (idle_of S.state self) }
-        ensures gave { IdleSound S.sound S.state self → Gave S.gives self.source (before (blocks_of self.ring)) result.source }
+        ensures state { handle_of S.state result ≡ shrunk (idle_of S.state self) }
+        ensures gave { Gave S.gives self.source (before (blocks_of self.ring)) result.arena.source }
     {
-        let mut idle = self;
-        let _ = idle.shrink();
-        let Arena {
-            source,
-            ring,
-            growths,
-        } = idle;
-        ArenaHandle {
-            source,
-            ring,
-            used: 0,
-            growths,
-        }
+        let mut arena = self;
+        let _ = arena.shrink();
+        ArenaHandle { arena, used: 0 }
     }
 
     // Gives every block back, and answers the source.
     pub fn close(self) -> S
-        ensures kept { IdleSound S.sound S.state self → S.sound result }
-        ensures state { IdleSound S.sound S.state self → S.state result ≡ given_back (S.state self.source) (blocks_of self.ring) }
-        ensures gave { IdleSound S.sound S.state self → Gave S.gives self.source (blocks_of self.ring) result }
+        ensures state { S.state result ≡ given_back (S.state self.source) (blocks_of self.ring) }
+        ensures gave { Gave S.gives self.source (blocks_of self.ring) result }
     {
         let Arena {
             source,
@@ -150,57 +158,53 @@ impl<S: BlockSource> Arena<S> {
 impl<S: BlockSource> ArenaHandle<S> {
     // The idle arena again, with its blocks as they are.
     pub fn release(self) -> Arena<S>
-        ensures kept { HandleSound S.sound S.state self → IdleSound S.sound S.state result }
-        ensures source { result.source ≡ self.source }
+        ensures source { result.source ≡ self.arena.source }
         ensures state { idle_of S.state result ≡ handle_of S.state self }
     {
-        let ArenaHandle {
-            source,
-            ring,
-            used: _,
-            growths,
-        } = self;
-        Arena {
-            source,
-            ring,
-            growths,
-        }
+        let ArenaHandle { arena, used: _ } = self;
+        arena
     }
 
     pub fn growths(&self) -> usize
-        ensures { result ≡ self.now.growths }
+        ensures { result ≡ self.now.arena.growths }
     {
-        self.growths
+        self.arena.growths()
     }
 
     pub fn held(&self) -> usize
-        ensures { result ≡ total (blocks_of self.now.ring) }
+        ensures { result ≡ total (blocks_of self.now.arena.ring) }
     {
-        self.ring.total()
+        self.arena.held()
+    }
+
+    // Refuses an address whose byte is not taken.
+    fn taken(&self, at: usize) -> Result<(), Fault>
+        ensures { result ≡ asked (memory_at S.state self.now) at tt }
+    {
+        if self.arena.ring.taken(self.used, at) {
+            Ok(())
+        } else {
+            Err(Fault::Address)
+        }
     }
 
     // Serves the push from a further block, at least twice as large as the newest.
     fn grow(&mut self, last: usize, layout: Layout) -> Result<usize, Fault>
-        requires last { newest_size (blocks_of self.old.ring) ≡ last }
-        requires opened { opened (blocks_of self.old.ring) ≡ true }
-        ensures kept { HandleSound S.sound S.state self.old → HandleSound S.sound S.state self.new }
-        ensures extends { HandleSound S.sound S.state self.old → Extends (handle_of S.state self.old) self.old.used layout.size layout.align result (handle_of S.state self.new) self.new.used }
-        ensures consulted { HandleSound S.sound S.state self.old → Consulted S.chooses (nat_le (wanted last layout.size layout.align) 67108864) self.old.source (wanted last layout.size layout.align) (answered result (blocks_of self.new.ring)) self.new.source }
+        requires last { newest_size (blocks_of self.old.arena.ring) ≡ last }
+        requires opened { opened (blocks_of self.old.arena.ring) ≡ true }
+        ensures extends { Extends (handle_of S.state self.old) self.old.used layout.size layout.align result (handle_of S.state self.new) self.new.used }
+        ensures consulted { Consulted S.chooses (nat_le (wanted last layout.size layout.align) 67108864) self.old.arena.source (wanted last layout.size layout.align) (answered result (blocks_of self.new.arena.ring)) self.new.arena.source }
     {
-        let Some(least) = least_power(16 + layout.size() + layout.align()) else {
-            return Err(Fault::DoesNotFit(Cause::BlockLimit));
-        };
+        let least = least_power(16 + layout.size() + layout.align()).ok_or(Fault::DoesNotFit(
+            Cause::BlockLimit,
+        ))?;
         let size = (2 * last).max(least);
         if size > 67108864 {
             return Err(Fault::DoesNotFit(Cause::BlockLimit));
         }
-        // a sound source answers less than 2^48
-        let block = self.source.take(size)? % 281474976710656;
-        let base = block + 16;
+        let base = self.arena.take(size)? + 16;
         let pad = layout.align_offset(base);
-        self.ring.push_next(block, size);
         self.used = pad + layout.size();
-        self.growths = self.growths + 1;
         Ok(base + pad)
     }
 }
@@ -208,20 +212,20 @@ impl<S: BlockSource> ArenaHandle<S> {
 impl<S: BlockSource> Allocator for ArenaHandle<S> {
     ghost blocks = { λ h. memory_at S.state h };
 
-    ghost sound = { λ h. HandleSound S.sound S.state h };
+    ghost lawful = { λ h. memory-lawful (S.state h.arena.source).blocks (S.lawful h.arena.source) (blocks_of h.arena.ring) h.used h.arena.kept h.arena.ring.rises h.marked };
 
-    ghost lawful = { λ h k. memory-lawful (S.state h.source).blocks (S.lawful h.source k.source) (blocks_of h.ring) h.used k.kept h.ring.rises h.marked };
+    ghost pushes = { λ h size align r h'. Pushes (handle_of S.state h) (fits (memory_at S.state h) size align) size align r (handle_of S.state h') × Consulted S.chooses (pushing (blocks_of h.arena.ring) (fits (memory_at S.state h) size align) size align) h.arena.source (wanted (newest_size (blocks_of h.arena.ring)) size align) (answered r (blocks_of h'.arena.ring)) h'.arena.source };
 
-    ghost pushes = { λ h size align r h'. Pushes (handle_of S.state h) (fits (memory_at S.state h) size align) size align r (handle_of S.state h') × Consulted S.chooses (pushing (blocks_of h.ring) (fits (memory_at S.state h) size align) size align) h.source (wanted (newest_size (blocks_of h.ring)) size align) (answered r (blocks_of h'.ring)) h'.source };
+    ghost pops = { λ h at size r h'. (handle_of S.state h' ≡ handle_of S.state h) × (h'.arena.source ≡ h.arena.source) };
 
-    ghost pops = { λ h at size r h'. (handle_of S.state h' ≡ handle_of S.state h) × (h'.source ≡ h.source) };
-
-    ghost stores = { λ h at byte r h'. (handle_of S.state h' ≡ putting (handle_of S.state h) (taken (memory_at S.state h) at) at byte) × Put S.stores (taken (memory_at S.state h) at) h.source at byte h'.source };
+    ghost stores = { λ h at byte r h'. (handle_of S.state h' ≡ putting (handle_of S.state h) (taken (memory_at S.state h) at) at byte) × Put S.stores (taken (memory_at S.state h) at) h.arena.source at byte h'.arena.source };
 
     fn push_alloc(&mut self, layout: Layout) -> Result<usize, Fault> {
-        let Some(tail) = self.ring.tail() else {
-            return Err(Fault::DoesNotFit(Cause::Unopened));
-        };
+        let tail = self
+            .arena
+            .ring
+            .tail()
+            .ok_or(Fault::DoesNotFit(Cause::Unopened))?;
         let top = tail.address + 16 + self.used;
         let pad = layout.align_offset(top);
         let wanted = pad + layout.size();
@@ -234,10 +238,8 @@ impl<S: BlockSource> Allocator for ArenaHandle<S> {
 
     // Reduces the used space if the span is in the newest block.
     fn pop_alloc(&mut self, at: usize, _layout: Layout) -> Result<(), Fault> {
-        if !self.ring.taken(self.used, at) {
-            return Err(Fault::Address);
-        }
-        if let Some(tail) = self.ring.tail() {
+        self.taken(at)?;
+        if let Some(tail) = self.arena.ring.tail() {
             let start = tail.address + 16;
             if start <= at && at < start + self.used {
                 self.used = at - start;
@@ -247,18 +249,13 @@ impl<S: BlockSource> Allocator for ArenaHandle<S> {
     }
 
     fn load(&self, at: usize) -> Result<u8, Fault> {
-        if !self.ring.taken(self.used, at) {
-            return Err(Fault::Address);
-        }
-        let byte = self.source.load(at)?;
-        Ok(byte)
+        self.taken(at)?;
+        Ok(self.arena.source.load(at)?)
     }
 
     fn store(&mut self, at: usize, byte: u8) -> Result<(), Fault> {
-        if !self.ring.taken(self.used, at) {
-            return Err(Fault::Address);
-        }
-        self.source.store(at, byte)?;
+        self.taken(at)?;
+        self.arena.store(at, byte)?;
         Ok(())
     }
 }

@@ -1,75 +1,43 @@
-use Rattle.std.proofs.Common.{List, sym, subst}
+use Rattle.std.proofs.Common.{◌+◌, ◌∙◌, Err, sym, ap, arith}
 use Rattle.std.proofs.lemmas.Result.{err_from_is_err_and}
-use Rattle.std.proofs.lemmas.Bool.{both_ways}
-use Rattle.source.specs.Blocks.{Outstanding}
-use Rattle.arena.specs.Arenas.{blocks_of}
-use Rattle.arena.specs.Meaning.{Kept}
+use Rattle.arena.specs.Powers.{LeastPower}
+use Rattle.arena.specs.Views.{idle_of}
+use Rattle.arena.specs.declared.fault.ArenaFault.{ArenaFault}
 use Rattle.arena.proofs.Table.{least-is}
-use Rattle.arena.proofs.Steps.{dries, fresh, some-of, below-48, opens-asks, opening-some, opening-high, opening-doubles, opening-refused, opening-granted}
+use Rattle.arena.proofs.Steps.{least-some, opening-high, opening-asks, opens-refused, opens-granted, asked-so, answered-ok}
 use Rattle.arena.proofs.arena.Arena.with_capacity.Goals as goal
 
-pub push_next-requires : goal.push_next-requires
-push_next-requires g c =
-    let s = g.S.BlockSource.state c.args.self.now.source in
-    let ps = blocks_of c.args.self.now.ring in
-    let empty = c.in_default.ensures in
-    let small = c.if-cap-gt16777216.false in
-    let least = c.in-Some-least_power.ensures in
-    record {
-      some = opening-some s s ps _ _ 0 empty small least;
-      small = opening-high s s ps _ _ 0 empty small least;
-      low = below-48 _;
-      doubles = opening-doubles s s ps _ _ 0 empty small least;
-    }
+pub take-requires-clause-small : goal.take-requires-clause-small
+take-requires-clause-small g c =
+    let a = idle_of g.S.BlockSource.state c.args.self.now in
+    let least : LeastPower (c.args.cap + 16) c.in_ok-size.size = least-some _ c.least_power.result _ _ c.in_ok-size.ensures.value c.least_power.ensures in
+    opening-high a a c.args.cap c.in_ok-size.size (sym c.opened.ensures ∙ c.if-opened.false) (omega arith) least
 
-pub returns-in_err-block : goal.returns-in_err-block
-returns-in_err-block g c =
-    let p = err_from_is_err_and c.from_residual.result c.from_residual.ensures.1 in
-    let h = c.args.self.now in
-    let s = g.S.BlockSource.state h.source in
-    let s' = g.S.BlockSource.state c.take.new.self in
-    let ps = blocks_of h.ring in
-    let empty = c.in_default.ensures in
-    let small = c.if-cap-gt16777216.false in
-    let least = c.in-Some-least_power.ensures in
-    let some = some-of _ (opening-some s s ps _ _ 0 empty small least) in
-    let high = opening-high s s ps _ _ 0 empty small least in
-    let asked = c.in_err-block.ensures in
-    rw (p.1, p.2)
-    (record {
-      kept = λ k.
-          let d = dries s s' _ some high _ (asked.rule k.source) in
-          record { source = asked.kept k.source; kept = subst (λ (bs : List Outstanding). Kept bs (blocks_of c.args.self.now.ring)) (sym d.same) k.kept };
-      opens = λ k. opening-refused s s' ps _ _ h.growths empty small least _ (dries s s' _ some high _ (asked.rule k.source));
-      consulted = λ k.
-          let d = dries s s' _ some high _ (asked.rule k.source) in
-          record {
-            chosen = λ _. rw (sym (least-is _ _ least), sym d.is) (asked.own k.source);
-            same = λ f. absurd (both_ways _ f (opens-asks ps _ empty small));
-          };
-    })
+pub returns-in_err-take-clause-opens : goal.returns-in_err-take-clause-opens
+returns-in_err-take-clause-opens g c =
+    let p = err_from_is_err_and c.from_residual-in_err-take.result c.from_residual-in_err-take.ensures.1 in
+    let a = idle_of g.S.BlockSource.state c.args.self.now in
+    let least : LeastPower (c.args.cap + 16) c.in_ok-size.size = least-some _ c.least_power.result _ _ c.in_ok-size.ensures.value c.least_power.ensures in
+    rw (p.1, p.2) (opens-refused a _ c.args.cap c.in_ok-size.size (sym c.opened.ensures ∙ c.if-opened.false) (omega arith) least _ c.in_err-take.ensures.takes)
 
-pub returns : goal.returns
-returns g c =
-    let h = c.args.self.now in
-    let s = g.S.BlockSource.state h.source in
-    let s' = g.S.BlockSource.state c.take.new.self in
-    let ps = blocks_of h.ring in
-    let ps' = blocks_of c.push_next.new.self in
-    let empty = c.in_default.ensures in
-    let small = c.if-cap-gt16777216.false in
-    let least = c.in-Some-least_power.ensures in
-    let some = some-of _ (opening-some s s ps _ _ 0 empty small least) in
-    let high = opening-high s s ps _ _ 0 empty small least in
-    let asked = c.in_ok-block.ensures in
-    let linked = c.push_next.ensures in
-    record {
-      kept = λ k. record { source = asked.kept k.source; kept = (fresh s s' _ some high ps ps' _ linked k.kept h.ring.rises (asked.rule k.source)).kept };
-      opens = λ k. opening-granted s s' ps _ _ h.growths empty small least ps' _ (fresh s s' _ some high ps ps' _ linked k.kept h.ring.rises (asked.rule k.source));
-      consulted = λ k.
-          let f = fresh s s' _ some high ps ps' _ linked k.kept h.ring.rises (asked.rule k.source) in
-          record {
-            chosen = λ _. rw (linked, f.low, sym (least-is _ _ least)) (asked.own k.source);
-            same = λ x. absurd (both_ways _ x (opens-asks ps _ empty small));
-          };
-    }
+pub returns-in_err-take-clause-consulted : goal.returns-in_err-take-clause-consulted
+returns-in_err-take-clause-consulted g c =
+    let p = err_from_is_err_and c.from_residual-in_err-take.result c.from_residual-in_err-take.ensures.1 in
+    let a = idle_of g.S.BlockSource.state c.args.self.now in
+    let least : LeastPower (c.args.cap + 16) c.in_ok-size.size = least-some _ c.least_power.result _ _ c.in_ok-size.ensures.value c.least_power.ensures in
+    rw p.1
+    (asked-so (opening-asks a a c.args.cap c.in_ok-size.size (sym c.opened.ensures ∙ c.if-opened.false) (omega arith) least)
+    (least-is _ _ least) (ap Err c.in_err-take.ensures.takes.0) c.in_err-take.ensures.own)
+
+pub returns-clause-opens : goal.returns-clause-opens
+returns-clause-opens g c =
+    let a = idle_of g.S.BlockSource.state c.args.self.now in
+    let least : LeastPower (c.args.cap + 16) c.in_ok-size.size = least-some _ c.least_power.result _ _ c.in_ok-size.ensures.value c.least_power.ensures in
+    opens-granted a _ c.args.cap c.in_ok-size.size (sym c.opened.ensures ∙ c.if-opened.false) (omega arith) least _ c.in_ok-take.ensures.takes
+
+pub returns-clause-consulted : goal.returns-clause-consulted
+returns-clause-consulted g c =
+    let a = idle_of g.S.BlockSource.state c.args.self.now in
+    let least : LeastPower (c.args.cap + 16) c.in_ok-size.size = least-some _ c.least_power.result _ _ c.in_ok-size.ensures.value c.least_power.ensures in
+    asked-so (opening-asks a a c.args.cap c.in_ok-size.size (sym c.opened.ensures ∙ c.if-opened.false) (omega arith) least)
+    (least-is _ _ least) (answered-ok ArenaFault (tt {0}) a _ c.in_ok-size.size _ c.in_ok-take.ensures.takes) c.in_ok-take.ensures.own

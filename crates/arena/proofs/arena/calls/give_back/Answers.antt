@@ -12,13 +12,12 @@ loop-k-preserved g c =
     let b = c.at-b.ensures in
     let first = headed c.args.ring.now.records c.loop-k.k (omega arith) in (
       omega arith,
-      (λ s. c.give.ensures.kept (inv.1 s)),
-      (λ s t rest.
-          let given = subst (λ (r : BlockRecord). g.S.BlockSource.gives c.loop-k.source r.address c.give.result c.give.new.self) b (c.give.ensures.own (inv.1 s)) in
-          inv.2 s t (subst (λ (ps : List Place). Gave g.S.BlockSource.gives c.loop-k.source ps t) (sym first) (next given rest))),
-      (λ s.
-          let e = (c.give.ensures.rule (inv.1 s)).after in
-          ap (λ (x : Source). given_back x (chain c.args.ring.now.records (c.loop-k.k - 1))) (rw b at e) ∙ rw first at (inv.3 s)),
+      (λ t rest.
+          let given = subst (λ (r : BlockRecord). g.S.BlockSource.gives c.loop-k.source r.address c.give.result c.give.new.self) b c.give.ensures.own in
+          inv.1 t (subst (λ (ps : List Place). Gave g.S.BlockSource.gives c.loop-k.source ps t) (sym first) (next given rest))),
+      (
+          let e = c.give.ensures.rule.after in
+          ap (λ (x : Source). given_back x (chain c.args.ring.now.records (c.loop-k.k - 1))) (rw b at e) ∙ rw first at inv.2),
     )
 
 pub returns : goal.returns
@@ -26,9 +25,8 @@ returns g c =
     let inv = c.loop-k.invariant in
     let none : c.loop-k.k ≡ 0 = omega arith in
     record {
-      kept = inv.1;
-      own = λ s. inv.2 s c.loop-k.source (subst (λ (n : ℕ). Gave g.S.BlockSource.gives c.loop-k.source (chain c.args.ring.now.records n) c.loop-k.source) (sym none) done);
-      state = λ s.
+      own = inv.1 c.loop-k.source (subst (λ (n : ℕ). Gave g.S.BlockSource.gives c.loop-k.source (chain c.args.ring.now.records n) c.loop-k.source) (sym none) done);
+      state =
           subst (λ (n : ℕ). given_back (g.S.BlockSource.state c.loop-k.source) (chain c.args.ring.now.records n) ≡ given_back (g.S.BlockSource.state c.args.source.now) (chain c.args.ring.now.records c.args.n))
-          none (inv.3 s);
+          none inv.2;
     }

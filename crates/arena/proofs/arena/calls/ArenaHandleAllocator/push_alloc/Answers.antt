@@ -1,81 +1,55 @@
-use Rattle.std.proofs.Common.{◌≡◌, ◌+◌, ◌-◌, ◌<◌, ◌≤◌, false, refl, arith}
-use Rattle.std.proofs.lemmas.Bool.{both_ways}
-use Rattle.allocator.specs.Memory.{fits}
+use Rattle.std.proofs.Common.{◌≡◌, []}
+use Rattle.std.proofs.lemmas.Result.{err_from_is_err_and}
 use Rattle.allocator.proofs.Laws.{push-served}
+use Rattle.arena.specs.declared.record.BlockRecord.{BlockRecord}
 use Rattle.arena.specs.Arenas.{blocks_of}
 use Rattle.arena.specs.Keeps.{memory-lawful}
-use Rattle.arena.specs.Rings.{place}
-use Rattle.arena.specs.Views.{HandleSound, memory_at}
-use Rattle.arena.proofs.Steps.{unserved, roomy, unfit, served, marked, beyond, asks-none, asks-not, consulted-push, nil-opened, cons-opened}
+use Rattle.arena.specs.Rings.{place, Newest}
+use Rattle.arena.proofs.Steps.{ok-some, err-none, unserved, unfit, served, marked, beyond}
 use Rattle.arena.proofs.arena.calls.ArenaHandleAllocator.push_alloc.Goals as goal
 
-pub returns-in_default : goal.returns-in_default
-returns-in_default g c =
+pub returns-in_err-tail-clause-rule : goal.returns-in_err-tail-clause-rule
+returns-in_err-tail-clause-rule g c =
+    let p = err_from_is_err_and c.from_residual.result c.from_residual.ensures.1 in
     let h = c.args.self.now in
-    let none = c.in_default.ensures in
-    let shut = nil-opened (blocks_of h.ring) none in
-    record {
-      kept = λ k. k;
-      own = λ k. (
-        record { unopened = λ _. (refl, refl); served = λ _. refl; beyond = λ o. absurd (both_ways _ shut o); asks = λ o. absurd (both_ways _ shut o) },
-        record { chosen = λ asked. absurd (both_ways _ (asks-none _ _ _ _ none) asked); same = λ _. refl },
-      );
-      rule = λ k. unserved _ _ _ _ _ none;
-      serves = λ k. refl;
-    }
+    let none = err-none (blocks_of c.args.self.now.arena.ring ≡ []) (λ (b : BlockRecord). Newest c.args.self.now.arena.ring.records c.args.self.now.arena.ring.len b) c.tail.result _ _ c.in_err-tail.ensures.value c.tail.ensures in
+    rw (p.1, p.2, none.1) (unserved (g.S.BlockSource.state h.arena.source).blocks (blocks_of h.arena.ring) h.used c.args.layout.size c.args.layout.align none.0)
 
-pub returns-then-wanted-tail : goal.returns-then-wanted-tail
-returns-then-wanted-tail g c =
+pub returns-then-wanted-tail-clause-serves : goal.returns-then-wanted-tail-clause-serves
+returns-then-wanted-tail-clause-serves g c =
     let h = c.args.self.now in
+    let s = g.S.BlockSource.state h.arena.source in
+    let lawful = g.S.BlockSource.lawful h.arena.source in
+    let ps = blocks_of h.arena.ring in
+    let first = (ok-some (blocks_of c.args.self.now.arena.ring ≡ []) (λ (b : BlockRecord). Newest c.args.self.now.arena.ring.records c.args.self.now.arena.ring.len b) c.tail.result _ _ c.in_ok-tail.ensures.value c.tail.ensures).first in
     let l = c.args.layout in
-    let tail = c.in-Some.tail in
-    let first = c.in-Some.ensures.first in
-    let pad_is = c.align_offset-pad.ensures.value in
-    let many_is = c.size.ensures.value in
-    let under : c.align_offset-pad.result + c.size.result ≤ c.in-Some.tail.size - 16 - c.args.self.now.used = omega arith in
-    let some = cons-opened (blocks_of h.ring) _ _ first in
-    record {
-      kept = λ k. k;
-      own = λ k.
-          let fit = roomy (g.S.BlockSource.state h.source).blocks (blocks_of h.ring) (place tail) _ h.used l.size l.align _ _ first k.kept pad_is many_is under in (
-            record { unopened = λ o. absurd (both_ways _ o some); served = λ _. refl; beyond = λ _ no'. absurd (both_ways _ no' fit); asks = λ _ no'. absurd (both_ways _ no' fit) },
-            record { chosen = λ asked. absurd (both_ways _ (asks-not (blocks_of h.ring) _ l.size l.align fit) asked); same = λ _. refl },
-          );
-      rule = λ k. served (g.S.BlockSource.state h.source).blocks (blocks_of h.ring) (place tail) _ h.used l.size l.align _ _ first k.kept pad_is many_is under;
-      serves = λ k.
-          let lawful = g.S.BlockSource.lawful h.source k.source in
-          let bs = (g.S.BlockSource.state h.source).blocks in
-          push-served (memory-lawful bs lawful (blocks_of h.ring) h.used k.kept h.ring.rises h.marked)
-          (memory-lawful bs lawful (blocks_of h.ring) _ k.kept h.ring.rises (marked bs (blocks_of h.ring) (place tail) _ h.used l.size l.align _ _ first k.kept pad_is many_is under h.marked))
-          l.low
-          (served bs (blocks_of h.ring) (place tail) _ h.used l.size l.align _ _ first k.kept pad_is many_is under);
-    }
+    push-served (memory-lawful s.blocks lawful ps h.used h.arena.kept h.arena.ring.rises h.marked)
+    (memory-lawful s.blocks lawful ps _ h.arena.kept h.arena.ring.rises (marked s.blocks ps (place c.in_ok-tail.tail) _ h.used l.size l.align _ _ first h.arena.kept c.align_offset-pad.ensures.value c.size.ensures.value c.if-wanted-tail.true h.marked))
+    l.low
+    (served s.blocks ps (place c.in_ok-tail.tail) _ h.used l.size l.align _ _ first h.arena.kept c.align_offset-pad.ensures.value c.size.ensures.value c.if-wanted-tail.true)
 
-pub returns : goal.returns
-returns g c =
+pub returns-clause-rule : goal.returns-clause-rule
+returns-clause-rule g c =
     let h = c.args.self.now in
+    let s = g.S.BlockSource.state h.arena.source in
+    let lawful = g.S.BlockSource.lawful h.arena.source in
+    let ps = blocks_of h.arena.ring in
+    let first = (ok-some (blocks_of c.args.self.now.arena.ring ≡ []) (λ (b : BlockRecord). Newest c.args.self.now.arena.ring.records c.args.self.now.arena.ring.len b) c.tail.result _ _ c.in_ok-tail.ensures.value c.tail.ensures).first in
     let l = c.args.layout in
-    let tail = c.in-Some.tail in
-    let first = c.in-Some.ensures.first in
-    let pad_is = c.align_offset-pad.ensures.value in
-    let many_is = c.size.ensures.value in
-    let over : c.in-Some.tail.size - 16 - c.args.self.now.used < c.align_offset-pad.result + c.size.result = omega arith in
-    let some = cons-opened (blocks_of h.ring) _ _ first in
-    let no' : HandleSound g.S.BlockSource.sound g.S.BlockSource.state c.args.self.now → fits (memory_at g.S.BlockSource.state c.args.self.now) c.args.layout.size c.args.layout.align ≡ false =
-    (λ k. unfit (g.S.BlockSource.state h.source).blocks (blocks_of h.ring) (place tail) _ h.used l.size l.align _ _ first k.kept pad_is many_is over) in
-    record {
-      kept = c.grow.ensures.kept;
-      own = λ k.
-          let w = c.grow.ensures.extends k in (
-            record { unopened = λ o. absurd (both_ways _ o some); served = λ fit. absurd (both_ways _ (no' k) fit); beyond = λ _ _. w.beyond; asks = λ _ _. w.asks },
-            consulted-push (blocks_of h.ring) (place tail) _ _ l.size l.align first (no' k) (c.grow.ensures.consulted k),
-          );
-      rule = λ k. beyond _ _ _ _ _ _ _ k.kept (c.grow.ensures.kept k).kept (no' k) (c.grow.ensures.extends k);
-      serves = λ k.
-          let h' = c.grow.new.self in
-          let k' = c.grow.ensures.kept k in
-          push-served (memory-lawful _ (g.S.BlockSource.lawful h.source k.source) (blocks_of h.ring) h.used k.kept h.ring.rises h.marked)
-          (memory-lawful _ (g.S.BlockSource.lawful h'.source k'.source) (blocks_of h'.ring) h'.used k'.kept h'.ring.rises h'.marked)
-          l.low
-          (beyond _ _ _ _ _ _ _ k.kept k'.kept (no' k) (c.grow.ensures.extends k));
-    }
+    let off = unfit s.blocks ps (place c.in_ok-tail.tail) _ h.used l.size l.align _ _ first h.arena.kept c.align_offset-pad.ensures.value c.size.ensures.value c.if-wanted-tail.false in
+    beyond _ _ _ _ _ _ _ h.arena.kept c.grow.new.self.arena.kept off c.grow.ensures.extends
+
+pub returns-clause-serves : goal.returns-clause-serves
+returns-clause-serves g c =
+    let h = c.args.self.now in
+    let s = g.S.BlockSource.state h.arena.source in
+    let lawful = g.S.BlockSource.lawful h.arena.source in
+    let ps = blocks_of h.arena.ring in
+    let first = (ok-some (blocks_of c.args.self.now.arena.ring ≡ []) (λ (b : BlockRecord). Newest c.args.self.now.arena.ring.records c.args.self.now.arena.ring.len b) c.tail.result _ _ c.in_ok-tail.ensures.value c.tail.ensures).first in
+    let l = c.args.layout in
+    let h' = c.grow.new.self in
+    let off = unfit s.blocks ps (place c.in_ok-tail.tail) _ h.used l.size l.align _ _ first h.arena.kept c.align_offset-pad.ensures.value c.size.ensures.value c.if-wanted-tail.false in
+    push-served (memory-lawful s.blocks lawful ps h.used h.arena.kept h.arena.ring.rises h.marked)
+    (memory-lawful _ (g.S.BlockSource.lawful h'.arena.source) (blocks_of h'.arena.ring) h'.used h'.arena.kept h'.arena.ring.rises h'.marked)
+    l.low
+    (beyond _ _ _ _ _ _ _ h.arena.kept h'.arena.kept off c.grow.ensures.extends)
