@@ -1,4 +1,4 @@
-use Rattle.std.proofs.Common.{◌≡◌, []}
+use Rattle.std.proofs.Common.{◌≡◌, ◌+◌, ◌-◌, ◌<◌, ◌≤◌, [], arith}
 use Rattle.std.proofs.lemmas.Result.{err_from_is_err_and}
 use Rattle.allocator.proofs.Laws.{push-served}
 use Rattle.arena.specs.declared.record.BlockRecord.{BlockRecord}
@@ -23,10 +23,11 @@ returns-then-wanted-tail-clause-serves g c =
     let ps = blocks_of h.arena.ring in
     let first = (ok-some (blocks_of c.args.self.now.arena.ring ≡ []) (λ (b : BlockRecord). Newest c.args.self.now.arena.ring.records c.args.self.now.arena.ring.len b) c.tail.result _ _ c.in_ok-tail.ensures.value c.tail.ensures).first in
     let l = c.args.layout in
+    let under : c.align_offset-pad.result + c.size.result ≤ c.in_ok-tail.tail.size - 16 - c.args.self.now.used = omega arith in
     push-served (memory-lawful s.blocks lawful ps h.used h.arena.kept h.arena.ring.rises h.marked)
-    (memory-lawful s.blocks lawful ps _ h.arena.kept h.arena.ring.rises (marked s.blocks ps (place c.in_ok-tail.tail) _ h.used l.size l.align _ _ first h.arena.kept c.align_offset-pad.ensures.value c.size.ensures.value c.if-wanted-tail.true h.marked))
+    (memory-lawful s.blocks lawful ps _ h.arena.kept h.arena.ring.rises (marked s.blocks ps (place c.in_ok-tail.tail) _ h.used l.size l.align _ _ first h.arena.kept c.align_offset-pad.ensures.value c.size.ensures.value under h.marked))
     l.low
-    (served s.blocks ps (place c.in_ok-tail.tail) _ h.used l.size l.align _ _ first h.arena.kept c.align_offset-pad.ensures.value c.size.ensures.value c.if-wanted-tail.true)
+    (served s.blocks ps (place c.in_ok-tail.tail) _ h.used l.size l.align _ _ first h.arena.kept c.align_offset-pad.ensures.value c.size.ensures.value under)
 
 pub returns-clause-rule : goal.returns-clause-rule
 returns-clause-rule g c =
@@ -36,7 +37,8 @@ returns-clause-rule g c =
     let ps = blocks_of h.arena.ring in
     let first = (ok-some (blocks_of c.args.self.now.arena.ring ≡ []) (λ (b : BlockRecord). Newest c.args.self.now.arena.ring.records c.args.self.now.arena.ring.len b) c.tail.result _ _ c.in_ok-tail.ensures.value c.tail.ensures).first in
     let l = c.args.layout in
-    let off = unfit s.blocks ps (place c.in_ok-tail.tail) _ h.used l.size l.align _ _ first h.arena.kept c.align_offset-pad.ensures.value c.size.ensures.value c.if-wanted-tail.false in
+    let over : c.in_ok-tail.tail.size - 16 - c.args.self.now.used < c.align_offset-pad.result + c.size.result = omega arith in
+    let off = unfit s.blocks ps (place c.in_ok-tail.tail) _ h.used l.size l.align _ _ first h.arena.kept c.align_offset-pad.ensures.value c.size.ensures.value over in
     beyond _ _ _ _ _ _ _ h.arena.kept c.grow.new.self.arena.kept off c.grow.ensures.extends
 
 pub returns-clause-serves : goal.returns-clause-serves
@@ -48,7 +50,8 @@ returns-clause-serves g c =
     let first = (ok-some (blocks_of c.args.self.now.arena.ring ≡ []) (λ (b : BlockRecord). Newest c.args.self.now.arena.ring.records c.args.self.now.arena.ring.len b) c.tail.result _ _ c.in_ok-tail.ensures.value c.tail.ensures).first in
     let l = c.args.layout in
     let h' = c.grow.new.self in
-    let off = unfit s.blocks ps (place c.in_ok-tail.tail) _ h.used l.size l.align _ _ first h.arena.kept c.align_offset-pad.ensures.value c.size.ensures.value c.if-wanted-tail.false in
+    let over : c.in_ok-tail.tail.size - 16 - c.args.self.now.used < c.align_offset-pad.result + c.size.result = omega arith in
+    let off = unfit s.blocks ps (place c.in_ok-tail.tail) _ h.used l.size l.align _ _ first h.arena.kept c.align_offset-pad.ensures.value c.size.ensures.value over in
     push-served (memory-lawful s.blocks lawful ps h.used h.arena.kept h.arena.ring.rises h.marked)
     (memory-lawful _ (g.S.BlockSource.lawful h'.arena.source) (blocks_of h'.arena.ring) h'.used h'.arena.kept h'.arena.ring.rises h'.marked)
     l.low
