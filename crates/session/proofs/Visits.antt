@@ -10,33 +10,26 @@ use Rattle.session.specs.Runs.{Run, opened, visited}
 use Rattle.session.specs.Visits.{Visited, RoundTrip}
 use Rattle.session.specs.declared.fault.Fault.{Fault}
 use Rattle.session.specs.declared.session.Session.{Session}
-use Rattle.session.proofs.Laws.{run-sound}
 use Rattle.session.proofs.Served.{push-refused-for, push-granted, store-answered, pop-answered}
 
 module _ {A : Type 0} (al : Ghosts A) (first s₀ : Session A) (events : List Event) (here : Visited al first events s₀) (value : ℕ) where
-  sound₀ : al.sound s₀.inner
-  sound₀ = run-sound al here.sound here.run
-
   pub unserved : (s₁ : Session A) (f : Fault) → Performs al s₀ (push 1 1) (refused f) s₁ → RoundTrip al s₀ value (Err f) s₁
   unserved s₁ f p₁ =
-      let (why, same) = push-refused-for (omega arith, omega arith) ((0, refl), omega arith) (p₁ sound₀).step in
+      let (why, same) = push-refused-for (omega arith, omega arith) ((0, refl), omega arith) p₁.step in
       (elim why [ inl (is, many) ↦ inl is | inr out ↦ inr out ], same)
 
   module _ (s₁ : Session A) (grant at : ℕ) (p₁ : Performs al s₀ (push 1 1) (granted grant at) s₁) where
     run₁ : Run al first (event (push 1 1) (granted grant at) ∷ events) s₁
     run₁ = visited here.run p₁
 
-    sound₁ : al.sound s₁.inner
-    sound₁ = (p₁ sound₀).sound
-
     live₁ : (state al s₁).live ≡ new_span grant at 1 1 ∷ (state al s₀).live
-    live₁ = (push-granted (p₁ sound₀).step).1
+    live₁ = (push-granted p₁.step).1
 
     stores : (s₂ : Session A) (answer : Answer) → Performs al s₁ (store grant 0 value) answer s₂ → (answer ≡ done) × ((state al s₂).live ≡ (state al s₁).live)
     stores s₂ answer p₂ =
-        let separation = (here.law here.sound _ s₁ run₁).0 in
+        let separation = (here.law _ s₁ run₁).0 in
         let among : Among (new_span grant at 1 1) (state al s₁).live = subst (λ l. Among (new_span grant at 1 1) l) (sym live₁) (inl refl) in
-        let (answered, after) = store-answered separation (new_span grant at 1 1) among refl (omega arith) (p₂ sound₁).step in
+        let (answered, after) = store-answered separation (new_span grant at 1 1) among refl (omega arith) p₂.step in
         (answered, ap (λ (x : State). x.live) after)
 
     pub stored : (s₂ : Session A) (f : Fault) → Performs al s₁ (store grant 0 value) (refused f) s₂ → ⊥
@@ -46,14 +39,11 @@ module _ {A : Type 0} (al : Ghosts A) (first s₀ : Session A) (events : List Ev
       run₂ : Run al first (event (store grant 0 value) done ∷ event (push 1 1) (granted grant at) ∷ events) s₂
       run₂ = visited run₁ p₂
 
-      sound₂ : al.sound s₂.inner
-      sound₂ = (p₂ sound₁).sound
-
       separation₂ : Separation (ledger_of (event (store grant 0 value) done ∷ event (push 1 1) (granted grant at) ∷ events)) (state al s₂)
-      separation₂ = (here.law here.sound _ s₂ run₂).0
+      separation₂ = (here.law _ s₂ run₂).0
 
       reads : (answer : Answer) → Performs al s₂ (load grant 0) answer s₂ → answer ≡ byte value
-      reads answer p₃ = (separation₂.reads (new_span grant at 1 1) (inl refl) 0 value (omega arith) (inl (refl, refl, refl))).1 answer _ (p₃ sound₂).step
+      reads answer p₃ = (separation₂.reads (new_span grant at 1 1) (inl refl) 0 value (omega arith) (inl (refl, refl, refl))).1 answer _ p₃.step
 
       pub loaded : (f : Fault) → Performs al s₂ (load grant 0) (refused f) s₂ → ⊥
       loaded f p₃ = let never = reads (refused f) p₃ in let z : ◌≡◌ {A = ℕ} 0 1 = cc in omega arith
@@ -61,7 +51,7 @@ module _ {A : Type 0} (al : Ghosts A) (first s₀ : Session A) (events : List Ev
       pops : (s₃ : Session A) (answer : Answer) → Performs al s₂ (pop grant) answer s₃ → (answer ≡ done) × ((state al s₃).live ≡ (state al s₀).live)
       pops s₃ answer p₄ =
           let newest : (state al s₂).live ≡ new_span grant at 1 1 ∷ (state al s₀).live = (stores s₂ done p₂).1 ∙ live₁ in
-          let (answered, after) = pop-answered separation₂ (new_span grant at 1 1) (state al s₀).live newest refl (p₄ sound₂).step in
+          let (answered, after) = pop-answered separation₂ (new_span grant at 1 1) (state al s₀).live newest refl p₄.step in
           (answered, ap (λ (x : State). x.live) after)
 
       pub popped : (s₃ : Session A) (f : Fault) → Performs al s₂ (pop grant) (refused f) s₃ → ⊥

@@ -144,7 +144,7 @@ impl<A: Allocator> Session<A> {
         Ok(self.inner.store(at, byte)?)
     }
 
-    // The address of a byte of the grant's span. The spans of a sound allocator end far below the last number, so the sum is not cut.
+    // The address of a byte of the grant's span. The spans of an allocator end far below the last number, so the sum is not cut.
     fn address(&self, grant: &Grant, offset: usize) -> Result<usize, Fault>
         ensures { MatchResult result (λ at. Addressed (state A.Allocator self.now).live grant.now.number offset at) (Unaddressed (state A.Allocator self.now).live grant.now.number offset) }
     {

@@ -7,8 +7,8 @@ use Rattle.session.proofs.Owns.{own-popped, own-untaken}
 use Rattle.session.proofs.session.Session.pop_newest.Goals as goal
 
 pub returns-then-self-eq0 : goal.returns-then-self-eq0
-returns-then-self-eq0 g c sound =
-    let none : c.args.self.now.count ≡ 0 = omega arith in record { step = refuses (nothing_live (live-none _ _ none)); sound = sound; own = λ ne. refl }
+returns-then-self-eq0 g c =
+    let none : c.args.self.now.count ≡ 0 = omega arith in record { step = refuses (nothing_live (live-none _ _ none)); own = λ ne. refl }
 
 pub returns-in_err-pop_alloc : goal.returns-in_err-pop_alloc
 returns-in_err-pop_alloc g c =
@@ -17,22 +17,19 @@ returns-in_err-pop_alloc g c =
     let some : 0 < s.count = omega arith in
     let few : s.count ≤ length s.spans = omega arith in
     let f = c.in_err-pop_alloc.field-0.0 in
-    rw (p.1, p.2) (λ sound.
-    let rule = c.in_err-pop_alloc.ensures.rule sound in
-    record {
+    let rule = c.in_err-pop_alloc.ensures.rule in
+    rw (p.1, p.2) (record {
       step = pop-faulted _ _ s.spans s.count _ c.index-self-self.result _ some few rule f refl;
-      sound = c.in_err-pop_alloc.ensures.kept sound;
       own = own-untaken s.inner c.pop_alloc.new.self f (refused-address _ tt f rule.answer);
     })
 
 pub returns : goal.returns
-returns g c sound =
+returns g c =
     let s = c.args.self.now in
     let some : 0 < s.count = omega arith in
     let few : s.count ≤ length s.spans = omega arith in
     let inner = c.in_ok-pop_alloc.ensures in
     record {
-      step = pop-done _ _ s.spans s.count _ c.index-self-self.result _ some few (inner.rule sound) _ refl;
-      sound = inner.kept sound;
-      own = own-popped g.A.Allocator s.inner c.pop_alloc.new.self s.spans s.count c.index-self-self.result some few (inner.own sound);
+      step = pop-done _ _ s.spans s.count _ c.index-self-self.result _ some few inner.rule _ refl;
+      own = own-popped g.A.Allocator s.inner c.pop_alloc.new.self s.spans s.count c.index-self-self.result some few inner.own;
     }

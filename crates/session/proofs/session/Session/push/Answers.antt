@@ -10,14 +10,13 @@ returns-in_err-layout g c =
     let p = err_from_is_err_and c.from_residual.result c.from_residual.ensures.1 in
     let f = c.in_err-layout.field-0.0 in
     let bad = c.in_err-layout.ensures in
-    rw (p.1, p.2) (λ sound. record {
+    rw (p.1, p.2) (record {
       step = push-unlaid _ c.args.size c.args.align f bad;
-      sound = sound;
       own = own-unlaid g.A.Allocator c.args.self.now.inner c.args.size c.args.align f bad;
     })
 
 pub returns-then-self-eq-MOST_LIVE : goal.returns-then-self-eq-MOST_LIVE
-returns-then-self-eq-MOST_LIVE g c sound =
+returns-then-self-eq-MOST_LIVE g c =
     let s = c.args.self.now in
     let (es, ea) = c.in_ok-layout.ensures in
     let few : s.count ≤ length s.spans = omega arith in
@@ -27,7 +26,6 @@ returns-then-self-eq-MOST_LIVE g c sound =
     ] in
     record {
       step = push-full _ s.spans s.count s.given c.in_ok-layout.layout c.args.size c.args.align es ea few why;
-      sound = sound;
       own = refl;
     }
 
@@ -41,17 +39,15 @@ returns-in_err-at g c =
     let few : s.count ≤ length s.spans = omega arith in
     let less : s.count < 64 = omega arith in
     let left : s.given < 4294967295 = omega arith in
-    rw (p.1, p.2) (λ sound.
     let inner = c.in_err-at.ensures in
-    record {
-      step = push-unserved _ s.spans s.count s.given l c.args.size c.args.align es ea few less left _ f (inner.rule sound);
-      sound = inner.kept sound;
+    rw (p.1, p.2) (record {
+      step = push-unserved _ s.spans s.count s.given l c.args.size c.args.align es ea few less left _ f inner.rule;
       own = own-unserved g.A.Allocator s.inner c.push_alloc.new.self l.size l.align c.args.size c.args.align es ea f
-          (push-refused _ _ l.size l.align f (inner.rule sound)).0 (inner.own sound);
+          (push-refused _ _ l.size l.align f inner.rule).0 inner.own;
     })
 
 pub returns : goal.returns
-returns g c sound =
+returns g c =
     let s = c.args.self.now in
     let (es, ea) = c.in_ok-layout.ensures in
     let l = c.in_ok-layout.layout in
@@ -61,8 +57,7 @@ returns g c sound =
     let inside : s.count < length s.spans = omega arith in
     let inner = c.in_ok-at.ensures in
     record {
-      step = push-served _ s.spans s.count s.given l c.args.size c.args.align es ea few less left _ c.in_ok-at.at (inner.rule sound) _ inside refl;
-      sound = inner.kept sound;
+      step = push-served _ s.spans s.count s.given l c.args.size c.args.align es ea few less left _ c.in_ok-at.at inner.rule _ inside refl;
       own = own-served g.A.Allocator s.inner c.push_alloc.new.self l.size l.align c.args.size c.args.align es ea
-          c.in_ok-at.at s.given (inner.own sound);
+          c.in_ok-at.at s.given inner.own;
     }
