@@ -1,14 +1,15 @@
 -- A round trip through a session, call by call.
-use Rattle.std.proofs.Common.{◌≡◌, ℕ, List, ◌∷◌, Ok, Err, sym, refl, ap, ◌∙◌, subst, inl, inr, arith}
+use Rattle.std.proofs.Common.{◌≡◌, ℕ, List, ◌∷◌, Ok, Err, Result, sym, refl, ap, ◌∙◌, subst, inl, inr, arith}
 use Rattle.allocator.specs.declared.Allocator.{Ghosts}
 use Rattle.session.specs.Ledger.{new_span, Among}
 use Rattle.session.specs.Calls.{Event, event, ledger_of, push, pop, load, store, Answer, granted, done, byte, refused}
 use Rattle.session.specs.Steps.{State}
-use Rattle.session.specs.Sessions.{state, Performs}
+use Rattle.session.specs.Sessions.{state, popped, Performs}
 use Rattle.session.specs.Laws.{Separation}
 use Rattle.session.specs.Runs.{Run, opened, visited}
 use Rattle.session.specs.Visits.{Visited, RoundTrip}
 use Rattle.session.specs.declared.fault.Fault.{Fault}
+use Rattle.session.specs.declared.grant.Grant.{Grant}
 use Rattle.session.specs.declared.session.Session.{Session}
 use Rattle.session.proofs.Served.{push-refused-for, push-granted, store-answered, pop-answered}
 
@@ -54,10 +55,11 @@ module _ {A : Type 0} (al : Ghosts A) (first s₀ : Session A) (events : List Ev
           let (answered, after) = pop-answered separation₂ (new_span grant at 1 1) (state al s₀).live newest refl p₄.step in
           (answered, ap (λ (x : State). x.live) after)
 
-      pub popped : (s₃ : Session A) (f : Fault) → Performs al s₂ (pop grant) (refused f) s₃ → ⊥
-      popped s₃ f p₄ = let never = (pops s₃ (refused f) p₄).0 in let z : ◌≡◌ {A = ℕ} 0 1 = cc in omega arith
+      pub accepted : (s₃ : Session A) (r : Result (Unit {0}) (Grant × Fault)) → Performs al s₂ (pop grant) (popped r) s₃ → r ≡ Ok tt
+      accepted s₃ (Ok u) p₄ = refl
+      accepted s₃ (Err e) p₄ = absurd (let never = (pops s₃ (refused e.1) p₄).0 in let z : ◌≡◌ {A = ℕ} 0 1 = cc in omega arith)
 
-      pub ends : (read : ℕ) → Performs al s₂ (load grant 0) (byte read) s₂ → (s₃ : Session A) → Performs al s₂ (pop grant) done s₃ → RoundTrip al s₀ value (Ok read) s₃
-      ends read p₃ s₃ p₄ =
+      pub ends : (read : ℕ) → Performs al s₂ (load grant 0) (byte read) s₂ → (s₃ : Session A) (answer : Answer) → Performs al s₂ (pop grant) answer s₃ → RoundTrip al s₀ value (Ok read) s₃
+      ends read p₃ s₃ answer p₄ =
           let same = reads (byte read) p₃ in
-          (cc, (pops s₃ done p₄).1, (_, visited (visited (visited (visited opened p₁) p₂) p₃) p₄))
+          (cc, (pops s₃ answer p₄).1, (_, visited (visited (visited (visited opened p₁) p₂) p₃) p₄))

@@ -19,8 +19,8 @@ use Rattle.session.specs.declared.live.LiveSpan.{LiveSpan}
 use Rattle.session.specs.declared.session.Session.{Session}
 
 -- a session over bare blocks, with these records
-abbrev session : (m : Memory) → Lawful m → List LiveSpan → (count : ℕ) → ℕ → count ≤ 64 → Session Blocks
-session m lawful spans count given few = record { inner = record { memory = m; lawful = lawful }; spans = spans; count = count; given = given; few = few }
+abbrev session : (m : Memory) → Lawful m → List LiveSpan → ℕ → Session Blocks
+session m lawful spans given = record { inner = record { memory = m; lawful = lawful }; spans = record { items = spans }; given = given }
 
 abbrev span : ℕ → ℕ → (size align : ℕ) → Sized size → Aligning align → LiveSpan
 span grant at size align sized aligning =
@@ -57,12 +57,12 @@ lands =
     let s₂ = span 2 8 8 8 (omega arith, omega arith) eight in
     let s₃ = span 3 8 1 1 (omega arith, omega arith) one in
     record {
-      first = session (block 0 0 32 ∷ []) (alone 0 0 32 (omega arith) (omega arith)) [] 0 0 (omega arith);
-      last = session (block 0 9 32 ∷ []) (alone 0 9 32 (omega arith) (omega arith)) (s₁ ∷ s₃ ∷ []) 2 3 (omega arith);
+      first = session (block 0 0 32 ∷ []) (alone 0 0 32 (omega arith) (omega arith)) [] 0;
+      last = session (block 0 9 32 ∷ []) (alone 0 9 32 (omega arith) (omega arith)) (s₁ ∷ s₃ ∷ []) 3;
       opens = refl;
-      run = visited {s = session (block 0 8 32 ∷ []) (alone 0 8 32 (omega arith) (omega arith)) (s₁ ∷ s₂ ∷ []) 1 2 (omega arith)}
-          (visited {s = session (block 0 16 32 ∷ []) (alone 0 16 32 (omega arith) (omega arith)) (s₁ ∷ s₂ ∷ []) 2 2 (omega arith)}
-          (visited {s = session (block 0 1 32 ∷ []) (alone 0 1 32 (omega arith) (omega arith)) (s₁ ∷ []) 1 1 (omega arith)}
+      run = visited {s = session (block 0 8 32 ∷ []) (alone 0 8 32 (omega arith) (omega arith)) (s₁ ∷ []) 2}
+          (visited {s = session (block 0 16 32 ∷ []) (alone 0 16 32 (omega arith) (omega arith)) (s₁ ∷ s₂ ∷ []) 2}
+          (visited {s = session (block 0 1 32 ∷ []) (alone 0 1 32 (omega arith) (omega arith)) (s₁ ∷ []) 1}
           (visited opened (record {
             step = serve (block 0 0 32 ∷ []) [] 0 1 1 (omega arith, omega arith) one (omega arith) (omega arith) refl;
             own = tt;
@@ -96,12 +96,12 @@ grows =
     let s₁ = span 1 16 12 4 (omega arith, omega arith) four in
     let s₂ = span 2 64 24 8 (omega arith, omega arith) eight in
     record {
-      first = session (block 16 0 16 ∷ []) (alone 16 0 16 (omega arith) (omega arith)) [] 0 0 (omega arith);
-      last = session (block 64 0 48 ∷ block 16 16 16 ∷ []) (both 0 (omega arith)) (s₁ ∷ s₂ ∷ []) 0 2 (omega arith);
+      first = session (block 16 0 16 ∷ []) (alone 16 0 16 (omega arith) (omega arith)) [] 0;
+      last = session (block 64 0 48 ∷ block 16 16 16 ∷ []) (both 0 (omega arith)) [] 2;
       opens = refl;
-      run = visited {s = session (block 64 0 48 ∷ block 16 16 16 ∷ []) (both 0 (omega arith)) (s₁ ∷ s₂ ∷ []) 1 2 (omega arith)}
-          (visited {s = session (block 64 24 48 ∷ block 16 16 16 ∷ []) (both 24 (omega arith)) (s₁ ∷ s₂ ∷ []) 2 2 (omega arith)}
-          (visited {s = session (block 16 12 16 ∷ []) (alone 16 12 16 (omega arith) (omega arith)) (s₁ ∷ []) 1 1 (omega arith)}
+      run = visited {s = session (block 64 0 48 ∷ block 16 16 16 ∷ []) (both 0 (omega arith)) (s₁ ∷ []) 2}
+          (visited {s = session (block 64 24 48 ∷ block 16 16 16 ∷ []) (both 24 (omega arith)) (s₁ ∷ s₂ ∷ []) 2}
+          (visited {s = session (block 16 12 16 ∷ []) (alone 16 12 16 (omega arith) (omega arith)) (s₁ ∷ []) 1}
           (visited opened (record {
             step = serve (block 16 0 16 ∷ []) [] 0 12 4 (omega arith, omega arith) four (omega arith) (omega arith) refl;
             own = tt;
@@ -128,11 +128,11 @@ only-first other (inr none) e = none
 reads : RefusesAndReads
 reads =
     let s₁ = span 1 0 8 8 (omega arith, omega arith) eight in
-    let there = session (block 0 8 16 ∷ []) (alone 0 8 16 (omega arith) (omega arith)) (s₁ ∷ []) 1 1 (omega arith) in
-    let stored = session (record { base = 0; mark = 8; bytes = 0 ∷ 0 ∷ 0 ∷ 7 ∷ 0 ∷ 0 ∷ 0 ∷ 0 ∷ 0 ∷ 0 ∷ 0 ∷ 0 ∷ 0 ∷ 0 ∷ 0 ∷ 0 ∷ [] } ∷ []) (omega arith, omega arith, (λ at e. refl), tt, tt) (s₁ ∷ []) 1 1 (omega arith) in
+    let there = session (block 0 8 16 ∷ []) (alone 0 8 16 (omega arith) (omega arith)) (s₁ ∷ []) 1 in
+    let stored = session (record { base = 0; mark = 8; bytes = 0 ∷ 0 ∷ 0 ∷ 7 ∷ 0 ∷ 0 ∷ 0 ∷ 0 ∷ 0 ∷ 0 ∷ 0 ∷ 0 ∷ 0 ∷ 0 ∷ 0 ∷ 0 ∷ [] } ∷ []) (omega arith, omega arith, (λ at e. refl), tt, tt) (s₁ ∷ []) 1 in
     let here : Span = new_span 1 0 8 8 in
     record {
-      first = session (block 0 0 16 ∷ []) (alone 0 0 16 (omega arith) (omega arith)) [] 0 0 (omega arith);
+      first = session (block 0 0 16 ∷ []) (alone 0 0 16 (omega arith) (omega arith)) [] 0;
       last = stored;
       opens = refl;
       run = visited {s = stored}

@@ -30,7 +30,7 @@ loaded (Ok value) = byte value
 loaded (Err fault) = refused fault
 
 abbrev pub state : {A : Type 0} → Ghosts A → Session A → State
-state allocator s = record { memory = allocator.blocks s.inner; live = records.live s.spans s.count; given = s.given }
+state allocator s = record { memory = allocator.blocks s.inner; live = records.live s.spans.items; given = s.given }
 
 -- What the allocator's own rules say of a call that led it from a to a'. The session's own refusals leave it as it was.
 module _ {A : Type 0} (allocator : Ghosts A) (a a' : A) where
