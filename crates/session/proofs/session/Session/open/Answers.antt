@@ -1,13 +1,14 @@
-use Rattle.std.proofs.Common.{◌≡◌, ap, refl}
-use Rattle.session.specs.Steps.{fresh, new_state}
-use Rattle.session.specs.Records.{live}
+use Rattle.std.proofs.Common.{arith}
 use Rattle.session.proofs.Laws.{session_law}
 use Rattle.session.proofs.Jobs.{job_law}
 use Rattle.session.proofs.Uses.{growth_law}
 use Rattle.session.proofs.session.Session.open.Goals as goal
 
-pub returns : goal.returns
-returns g c =
-    let memory = g.A.Allocator.blocks c.args.inner in
-    let opens : new_state memory (live c.new.result.items) 0 ≡ fresh memory = ap (λ spans. new_state memory (live spans) 0) c.new.ensures in
-    record { inner = refl; fresh = opens; law = session_law g.A.Allocator _ memory opens; jobs = job_law g.A.Allocator _ memory opens; growth = growth_law g.A.Allocator _ }
+pub returns-clause-law : goal.returns-clause-law
+returns-clause-law g c = session_law g.A.Allocator _ (g.A.Allocator.blocks c.args.inner) (grind arith)
+
+pub returns-clause-jobs : goal.returns-clause-jobs
+returns-clause-jobs g c = job_law g.A.Allocator _ (g.A.Allocator.blocks c.args.inner) (grind arith)
+
+pub returns-clause-growth : goal.returns-clause-growth
+returns-clause-growth g c = growth_law g.A.Allocator _
