@@ -17,6 +17,15 @@ pub struct Layout {
     ghost divides: { 4096 % align ≡ 0 },
 }
 
+// One byte, at any address.
+impl Default for Layout {
+    ghost is_default = { λ l. (l.size ≡ 1) × (l.align ≡ 1) };
+
+    fn default() -> Layout {
+        Layout { size: 1, align: 1 }
+    }
+}
+
 impl Layout {
     // The size is looked at first.
     pub fn from_size_align(size: usize, align: usize) -> Result<Layout, Fault>

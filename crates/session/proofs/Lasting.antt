@@ -13,7 +13,7 @@ use Rattle.session.specs.Jobs.{Regular, Unstored}
 use Rattle.session.specs.declared.session.Session.{Session}
 use Rattle.session.proofs.Blocks.{within-from}
 use Rattle.session.proofs.Grants.{each-at, numbered-below, separate-at}
-use Rattle.session.proofs.Jobs.{regular-after, regular-sound, regular-separation}
+use Rattle.session.proofs.Jobs.{regular-after, regular-separation}
 use Rattle.session.proofs.Laws.{run-trace}
 use Rattle.session.proofs.Traces.{run-kept}
 
@@ -51,22 +51,22 @@ store-inside (stores span other byte here less on) grant offset value is_call is
 module _ {A : Type 0} (al : Ghosts A) where
   regular-granted : {s : Session A} → Regular al s → (span : Span) → Among span (state al s).live → span.grant ≤ (state al s).given
   regular-granted {s} regular span here =
-      let inv = run-kept _ (run-trace al regular.first _ regular.fresh regular.sound regular.run) in
+      let inv = run-kept _ (run-trace al regular.first _ regular.fresh regular.run) in
       omega (arith, numbered-below (suc (state al s).given) (state al s).live span inv.numbered here)
 
   run-given : {s s' : Session A} {events : List Event} → Regular al s → Run al s events s' → (state al s).given ≤ (state al s').given
   run-given regular opened = omega arith
-  run-given regular (visited run performs) = omega (arith, run-given regular run, given-rises (performs (regular-sound al (regular-after al regular run))).step)
+  run-given regular (visited run performs) = omega (arith, run-given regular run, given-rises performs.step)
 
   -- one call leaves the bytes of a live span whose grant it does not store through
-  step-lasts : {s : Session A} (s' : Session A) {call : Call} {answer : Answer} → Regular al s → Step (state al s) call answer (state al s') → al.sound s'.inner →
+  step-lasts : {s : Session A} (s' : Session A) {call : Call} {answer : Answer} → Regular al s → Step (state al s) call answer (state al s') →
       (span : Span) → Among span (state al s).live → ((offset value : ℕ) → call ≡ store span.grant offset value → answer ≡ done → ⊥) →
       (at : ℕ) → span.at ≤ at → at < span.at + span.size → byte_at (state al s').memory at ≡ byte_at (state al s).memory at
-  step-lasts {s} s' {call} {answer} regular step sound span here not at low high =
+  step-lasts {s} s' {call} {answer} regular step span here not at low high =
       let separation = regular-separation al regular in
       let there : Among span (ledger_of regular.events).live = subst (λ l. Among span l) (sym separation.recorded) here in
       let inside = within-from (state al s).memory span at (each-at (InOneBlock (state al s).memory) _ span separation.contained there) low high in
-      separation.kept call answer (state al s') step (al.lawful s'.inner sound) at inside
+      separation.kept call answer (state al s') step (al.lawful s'.inner) at inside
       (λ (other, offset, value, among, is_call, is_done, is_at).
       elim (cases_eq other.grant span.grant) [
         | inl same ↦ not offset value (is_call ∙ ap (λ g. store g offset value) same) is_done
@@ -83,7 +83,6 @@ module _ {A : Type 0} (al : Ghosts A) where
   lasting regular opened span here there none at low high = refl
   lasting {s} {s'} regular (visited {s = s₁} run performs) span here there (not, none) at low high =
       let between = regular-after al regular run in
-      let performed = performs (regular-sound al between) in
       let old : span.grant ≤ (state al s₁).given = omega (arith, regular-granted regular span here, run-given regular run) in
-      let middle : Among span (state al s₁).live = lived performed.step span old there in
-      step-lasts s' between performed.step performed.sound span middle not at low high ∙ lasting regular run span here middle none at low high
+      let middle : Among span (state al s₁).live = lived performs.step span old there in
+      step-lasts s' between performs.step span middle not at low high ∙ lasting regular run span here middle none at low high

@@ -9,21 +9,15 @@ use Rattle.session.specs.Runs.{Run, opened, visited, SessionLaw}
 use Rattle.session.specs.declared.session.Session.{Session}
 use Rattle.session.proofs.Traces.{trace_law}
 
-module _ {A : Type 0} (al : Ghosts A) where
-  pub run-sound : {first s : Session A} {events : List Event} → al.sound first.inner → Run al first events s → al.sound s.inner
-  run-sound sound opened = sound
-  run-sound sound (visited run performs) = (performs (run-sound sound run)).sound
+-- a run that goes on from the end of another
+pub run-after : {A : Type 0} (al : Ghosts A) {first s s' : Session A} {earlier later : List Event} → Run al first earlier s → Run al s later s' → Run al first (later ++ earlier) s'
+run-after al run opened = run
+run-after al run (visited more performs) = visited (run-after al run more) performs
 
-  -- a run that goes on from the end of another
-  pub run-after : {first s s' : Session A} {earlier later : List Event} → Run al first earlier s → Run al s later s' → Run al first (later ++ earlier) s'
-  run-after run opened = run
-  run-after run (visited more performs) = visited (run-after run more) performs
-
-module _ {A : Type 0} (al : Ghosts A) (first : Session A) (m : Memory) (new : state al first ≡ fresh m) (sound : al.sound first.inner) where
+module _ {A : Type 0} (al : Ghosts A) (first : Session A) (m : Memory) (new : state al first ≡ fresh m) where
   pub run-trace : {events : List Event} {s : Session A} → Run al first events s → Trace (state al first).memory events (state al s)
-  run-trace opened = subst (λ (x : State). Trace x.memory [] x) (sym new) (started (subst (λ (x : State). Lawful x.memory) new (al.lawful first.inner sound)))
-  run-trace (visited {s' = s'} run performs) =
-      let performed = performs (run-sound al sound run) in stepped (run-trace run) performed.step (al.lawful s'.inner performed.sound)
+  run-trace opened = subst (λ (x : State). Trace x.memory [] x) (sym new) (started (subst (λ (x : State). Lawful x.memory) new (al.lawful first.inner)))
+  run-trace (visited {s' = s'} run performs) = stepped (run-trace run) performs.step (al.lawful s'.inner)
 
 pub session_law : {A : Type 0} (al : Ghosts A) (first : Session A) (m : Memory) → state al first ≡ fresh m → SessionLaw al first
-session_law al first m new sound events s run = trace_law (state al first).memory events (state al s) (run-trace al first m new sound run)
+session_law al first m new events s run = trace_law (state al first).memory events (state al s) (run-trace al first m new run)

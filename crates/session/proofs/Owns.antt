@@ -1,5 +1,5 @@
 -- What the allocator's own rules say of each way through a call.
-use Rattle.std.proofs.Common.{◌≡◌, ℕ, ◌-◌, ◌<◌, ◌≤◌, ◌⊎◌, List, length, get_or, Ok, Err, sym, refl, ap, subst, inl, inr}
+use Rattle.std.proofs.Common.{◌≡◌, ℕ, ◌⊎◌, List, ◌∷◌, Ok, Err, sym, refl, ap, subst, inl, inr}
 use Rattle.allocator.specs.Faults.{NoLayout}
 use Rattle.allocator.specs.declared.Allocator.{Ghosts}
 use Rattle.allocator.specs.declared.fault.Cause.{Cause}
@@ -8,12 +8,9 @@ use Rattle.allocator.specs.declared.fault.Fault.TheVariants.{Size, Alignment, Do
 use Rattle.session.specs.Ledger.{Span}
 use Rattle.session.specs.Calls.{Call, push, pop, pop_newest, load, store, granted, refused}
 use Rattle.session.specs.Steps.{State, Refuses, Step, refuses}
-use Rattle.session.specs.Records.{live}
 use Rattle.session.specs.Sessions.{OwnFault, OwnUnserved, OwnPush, OwnPopped, Own}
 use Rattle.session.specs.declared.fault.Fault as session
 use Rattle.session.specs.declared.fault.Fault.TheVariants.{NotNewest, NotLive, Full, Outside, Allocator}
-use Rattle.session.specs.declared.live.LiveSpan.{LiveSpan}
-use Rattle.session.proofs.Records.{live-newest}
 use Rattle.session.proofs.Steps.{sized-as}
 
 module _ {A : Type 0} (al : Ghosts A) (a a' : A) (size align size' align' : ℕ) (es : size ≡ size') (ea : align ≡ align') where
@@ -30,9 +27,8 @@ own-unlaid al a size align Alignment bad = refl
 own-unlaid al a size align (DoesNotFit cause) bad = absurd bad
 own-unlaid al a size align Address bad = absurd bad
 
-pub own-popped : {A : Type 0} (al : Ghosts A) (a a' : A) (spans : List LiveSpan) (count : ℕ) (d : LiveSpan) → 0 < count → count ≤ length spans →
-    al.pops a (get_or spans (count - 1) d).at (get_or spans (count - 1) d).layout.size (Ok tt) a' → OwnPopped al a a' (live spans count)
-own-popped al a a' spans count d some few own = subst (λ l. OwnPopped al a a' l) (sym (live-newest spans count d some few)) own
+pub own-popped : {A : Type 0} (al : Ghosts A) (a a' : A) (live older : List Span) (span : Span) → live ≡ span ∷ older → al.pops a span.at span.size (Ok tt) a' → OwnPopped al a a' live
+own-popped al a a' live older span newest own = subst (λ l. OwnPopped al a a' l) (sym newest) own
 
 -- an allocator refuses an address only as such
 pub own-untaken : {A : Type 0} (a a' : A) (f : Fault) → f ≡ Address → (Allocator f ≡ Allocator Address → ⊥) → a' ≡ a

@@ -1,54 +1,56 @@
 -- The record of a session, read newest first.
-use Rattle.std.proofs.Common.{◌≡◌, ℕ, zero, suc, ◌+◌, ◌-◌, ◌<◌, ◌≤◌, List, [], ◌∷◌, ◌++◌, length, get_or, take, set, sym, refl, ap, ◌∙◌, subst, inl, inr, arith, length-take}
-use Rattle.std.proofs.lemmas.List.{take_more, take_more_set}
-use Rattle.std.proofs.lemmas.Bool.{cases_lt}
+use Rattle.std.proofs.Common.{◌≡◌, ℕ, ◌+◌, ◌-◌, List, [], ◌∷◌, ◌++◌, map, reverse, length, take, Option, Some, None, Err, refl, ap, ◌∙◌, sym, inl, inr, arith}
+use Rattle.std.proofs.lemmas.Bool.{cases_Bool, eqb-true, eqb-false}
+use Rattle.std.proofs.lemmas.List.{length-map, length-reverse, reverse-append, take_more, take_all}
+use Rattle.std.proofs.lemmas.Option.{get_or_from_slice_get, slice_get-get_or}
+use Rattle.std.specs.List.{find}
+use Rattle.std.specs.Option.{ok_or}
+use Rattle.std.specs.Prelude.{◌==◌, slice_get, MatchOption}
+use mathlib.Core.List.{reverse_aux}
 use Rattle.session.specs.Ledger.{Span, Among}
-use Rattle.session.specs.Records.{recorded, onto, live, NotAmong}
+use Rattle.session.specs.Records.{recorded, live, NotAmong, Found}
 use Rattle.session.specs.declared.live.LiveSpan.{LiveSpan}
 
-onto-append : (first more : List LiveSpan) (older : List Span) → onto (first ++ more) older ≡ onto more (onto first older)
-onto-append [] more older = refl
-onto-append (span ∷ first) more older = onto-append first more (recorded span ∷ older)
+-- where `ok_or` gives an error, there was nothing
+pub nothing : {X E : Type 0} (o : Option X) (e f : E) → Err f ≡ ok_or o e → (o ≡ None) × (f ≡ e)
+nothing None e f is = (refl, cc)
+nothing (Some x) e f is = absurd (let z : ◌≡◌ {A = ℕ} 0 1 = cc in omega arith)
 
-onto-length : (first : List LiveSpan) (older : List Span) → length (onto first older) ≡ length first + length older
-onto-length [] older = omega arith
-onto-length (span ∷ first) older = omega (arith, onto-length first (recorded span ∷ older))
+pub live-length : (spans : List LiveSpan) → length (live spans) ≡ length spans
+live-length spans = length-map (reverse spans) recorded ∙ length-reverse spans
 
-pub live-length : (spans : List LiveSpan) (count : ℕ) → count ≤ length spans → length (live spans count) ≡ count
-live-length spans count few = omega (arith, onto-length (take count spans) [], length-take count spans)
+-- a record that is put last is the newest
+pub live-more : (spans : List LiveSpan) (span : LiveSpan) → live (spans ++ span ∷ []) ≡ recorded span ∷ live spans
+live-more spans span = ap (map recorded) (reverse-append spans (span ∷ []))
 
-pub live-none : (spans : List LiveSpan) (count : ℕ) → count ≡ 0 → live spans count ≡ []
-live-none spans count e = ap (λ n. live spans n) e
+pub live-none : (spans : List LiveSpan) → slice_get spans (length spans - 1) ≡ None → live spans ≡ []
+live-none [] last = refl
+live-none (first ∷ spans) last = absurd (let is = slice_get-get_or (first ∷ spans) (length (first ∷ spans) - 1) first (omega arith) in let z : ◌≡◌ {A = ℕ} 0 1 = cc in omega arith)
 
-live-more : (spans : List LiveSpan) (i : ℕ) (d : LiveSpan) → i < length spans → live spans (i + 1) ≡ recorded (get_or spans i d) ∷ live spans i
-live-more spans i d less = ap (λ l. onto l []) (take_more spans i d less) ∙ onto-append (take i spans) (get_or spans i d ∷ []) []
+pub live-newest : (spans : List LiveSpan) (newest : LiveSpan) → slice_get spans (length spans - 1) ≡ Some newest →
+    live spans ≡ recorded newest ∷ live (take (length spans - 1) spans)
+live-newest [] newest last = absurd (let z : ◌≡◌ {A = ℕ} 0 1 = cc in omega arith)
+live-newest (first ∷ spans) newest last =
+    let all = first ∷ spans in
+    let count : length all - 1 + 1 ≡ length all = omega arith in
+    let is : all ≡ take (length all - 1) all ++ newest ∷ [] =
+    sym (ap (λ n. take n all) count ∙ take_all (length all) all (omega arith)) ∙ take_more all (length all - 1) newest (omega arith)
+    ∙ ap (λ x. take (length all - 1) all ++ x ∷ []) (get_or_from_slice_get all (length all - 1) newest newest last) in
+    ap live is ∙ live-more (take (length all - 1) all) newest
 
-pub live-newest : (spans : List LiveSpan) (count : ℕ) (d : LiveSpan) → 0 < count → count ≤ length spans →
-    live spans count ≡ recorded (get_or spans (count - 1) d) ∷ live spans (count - 1)
-live-newest spans count d some few =
-    let e : count ≡ count - 1 + 1 = omega arith in
-    ap (λ n. live spans n) e ∙ live-more spans (count - 1) d (omega arith)
+-- what a search of the record finds is live, and has the grant
+module _ (grant : ℕ) where
+  stays : (spans below : List LiveSpan) (span : Span) → Among span (map recorded below) → Among span (map recorded (reverse_aux spans below))
+  stays [] below span here = here
+  stays (first ∷ spans) below span here = stays spans (first ∷ below) span (inr here)
 
--- a record that is set after the last is the newest
-pub live-set : (spans : List LiveSpan) (count : ℕ) (span : LiveSpan) → count < length spans → live (set spans count span) (count + 1) ≡ recorded span ∷ live spans count
-live-set spans count span inside = ap (λ l. onto l []) (take_more_set spans count span inside) ∙ onto-append (take count spans) (span ∷ []) []
-
--- each place below the count holds a live span
-pub live-at : (spans : List LiveSpan) (i : ℕ) (d : LiveSpan) (count : ℕ) → i < count → count ≤ length spans → Among (recorded (get_or spans i d)) (live spans count)
-live-at spans i d zero less few = absurd (omega arith)
-live-at spans i d (suc count) less few =
-    let e : suc count ≡ count + 1 = omega arith in
-    subst (λ l. Among (recorded (get_or spans i d)) l) (sym (ap (λ n. live spans n) e ∙ live-more spans count d (omega arith))) (elim (cases_lt i count) [
-      | inl before ↦ inr (live-at spans i d count before (omega arith))
-      | inr here ↦ let same : i ≡ count = omega arith in inl (ap (λ n. recorded (get_or spans n d)) same)
-    ])
-
--- the grant is not among those before, nor the next one's
-pub not-among-more : (spans : List LiveSpan) (i : ℕ) (d : LiveSpan) (grant : ℕ) → i < length spans → NotAmong (live spans i) grant → ((get_or spans i d).grant ≡ grant → ⊥) → NotAmong (live spans (i + 1)) grant
-not-among-more spans i d grant less none ne span here e = elim (subst (λ l. Among span l) (live-more spans i d less) here) [
-  | inl first ↦ ne (sym (ap (λ (x : Span). x.grant) first) ∙ e)
-  | inr older ↦ none span older e
-]
-
-pub not-among-all : (spans : List LiveSpan) (i count grant : ℕ) → i ≡ count → NotAmong (live spans i) grant → NotAmong (live spans count) grant
-not-among-all spans i count grant e none = subst (λ n. NotAmong (live spans n) grant) e none
+  pub found : (spans below : List LiveSpan) → NotAmong (map recorded below) grant →
+      MatchOption (find (λ span. span.grant == grant) spans) (NotAmong (map recorded (reverse_aux spans below)) grant) (λ span. Found (map recorded (reverse_aux spans below)) grant span)
+  found [] below none = none
+  found (first ∷ spans) below none = elim (cases_Bool (first.grant == grant)) [
+    | inl yes' ↦ rw yes' (stays spans (first ∷ below) (recorded first) (inl refl), eqb-true first.grant grant yes')
+    | inr no' ↦ rw no' (found spans (first ∷ below) (λ span here e. elim here [
+      | inl is ↦ absurd (eqb-false first.grant grant no' (sym (ap (λ (x : Span). x.grant) is) ∙ e))
+      | inr there ↦ none span there e
+    ]))
+  ]

@@ -18,7 +18,7 @@ use Rattle.session.specs.declared.fault.Fault.TheVariants.{Allocator}
 use Rattle.session.specs.declared.session.Session.{Session}
 use Rattle.session.proofs.Traces.{trace_law}
 use Rattle.session.proofs.Owns.{refusal-own}
-use Rattle.session.proofs.Laws.{run-sound, run-trace}
+use Rattle.session.proofs.Laws.{run-trace}
 
 abbrev Light : Span → Type 0
 Light span = span.size ≤ 16777216
@@ -145,13 +145,12 @@ module _ {T : Type 0} (al : Ghosts T) (ledger : Ledger) (t t' : AllocationTracke
       (stored t.stats ledger s.live kept span.grant offset value)
 
 module _ {T : Type 0} (al : Ghosts T) (first : Session (AllocationTracker T)) (m : Memory) (new : state (tracked al) first ≡ fresh m)
-    (blank : first.inner.stats ≡ unused) (sound : al.sound first.inner.inner) where
+    (blank : first.inner.stats ≡ unused) where
   run-kept : {events : List Event} {s : Session (AllocationTracker T)} → Run (tracked al) first events s → Kept s.inner.stats (ledger_of events) (state (tracked al) s).live
   run-kept opened = subst (λ x. Kept x empty (state (tracked al) first).live) (sym blank) (subst (λ (x : State). Kept unused empty x.live) (sym new) opening)
   run-kept (visited {earlier = earlier} {s = s} {s' = s'} {call = call} run performs) =
-      let performed = performs (run-sound (tracked al) sound run) in
-      let stand = (trace_law _ _ _ (run-trace (tracked al) first m new sound run)).0 in
-      step-kept al (ledger_of earlier) s.inner s'.inner (λ after step. stand.reached call after step) (run-kept run) performed.step performed.own
+      let stand = (trace_law _ _ _ (run-trace (tracked al) first m new run)).0 in
+      step-kept al (ledger_of earlier) s.inner s'.inner (λ after step. stand.reached call after step) (run-kept run) performs.step performs.own
 
 counts : (stats : AllocationStats) (ledger : Ledger) (live : List Span) → Kept stats ledger live → Counts stats ledger
 counts stats ledger live kept =
@@ -171,4 +170,4 @@ counts stats ledger live kept =
     }
 
 pub statistics_law : {T : Type 0} (al : Ghosts T) (first : Session (AllocationTracker T)) (m : Memory) → state (tracked al) first ≡ fresh m → first.inner.stats ≡ unused → StatisticsLaw al first
-statistics_law al first m new blank sound events s run = counts s.inner.stats (ledger_of events) _ (run-kept al first m new blank sound run)
+statistics_law al first m new blank events s run = counts s.inner.stats (ledger_of events) _ (run-kept al first m new blank run)

@@ -1,5 +1,5 @@
 -- Each way through a call of the session is a step.
-use Rattle.std.proofs.Common.{◌≡◌, ℕ, ◌+◌, ◌-◌, ◌^◌, ◌<◌, ◌≤◌, min, Bool, true, false, cond, ◌⊎◌, List, ◌∷◌, length, get_or, set, Ok, Err, Result, sym, refl, ap, ◌∙◌, subst, inl, inr, add-one, arith}
+use Rattle.std.proofs.Common.{◌≡◌, ℕ, ◌+◌, ◌-◌, ◌^◌, ◌<◌, min, Bool, true, false, cond, List, ◌∷◌, Ok, Err, Result, sym, refl, ap, ◌∙◌, subst, inl, inr, add-one, arith}
 use Rattle.std.proofs.lemmas.Bool.{cases_lt, both_ways, cond-true, cond-false}
 use Rattle.allocator.specs.Layouts.{Sized, Aligning}
 use Rattle.allocator.specs.Faults.{NoLayout}
@@ -14,12 +14,10 @@ use Rattle.allocator.proofs.Powers.{aligning-from-divides}
 use Rattle.session.specs.Ledger.{Span, new_span, Among}
 use Rattle.session.specs.Calls.{Answer, push, pop, pop_newest, load, store, done, byte, granted, refused}
 use Rattle.session.specs.Steps.{State, new_state, TooMany, IsNewest, Step, refuses, serves, loads, stores, pops, pops_newest, bad_size, bad_align, full, does_not_fit, pop_not_live, pop_not_newest, pop_untaken, pop_newest_untaken, nothing_live, load_not_live, load_outside, load_untaken, store_not_live, store_outside, store_untaken}
-use Rattle.session.specs.Records.{recorded, live, NotAmong, Unaddressed}
+use Rattle.session.specs.Records.{NotAmong, Unaddressed}
 use Rattle.session.specs.declared.fault.Fault as session
 use Rattle.session.specs.declared.fault.Fault.TheVariants.{NotNewest, NotLive, Full, Outside, Allocator}
-use Rattle.session.specs.declared.live.LiveSpan.{LiveSpan}
 use Rattle.session.proofs.Blocks.{high-untaken, popped-untaken}
-use Rattle.session.proofs.Records.{live-length, live-newest, live-set}
 
 -- what an allocator's answer tells of the address
 pub accepted : {X : Type 0} (t : Bool) (r : Result X Fault) (x y : X) → r ≡ cond t (Ok x) (Err Address) → r ≡ Ok y → t ≡ true
@@ -116,24 +114,17 @@ pub pop-older : (s : State) (grant : ℕ) (span : Span) → Among span s.live �
 pop-older s grant span here e ne = refuses (pop_not_newest (span, here, e) ne)
 
 -- the plain pop, as the allocator answers it
-module _ (m m' : Memory) (spans : List LiveSpan) (count given : ℕ) (d : LiveSpan) (r : Result (Unit {0}) Fault)
-    (some : 0 < count) (few : count ≤ length spans)
-    (rule : Pop m (get_or spans (count - 1) d).at r m') where
-  pub pop-done : (u : Unit {0}) → r ≡ Ok u → Step (new_state m (live spans count) given) pop_newest done (new_state m' (live spans (count - 1)) given)
-  pop-done u ok = subst (λ x. Step (new_state m (live spans count) given) pop_newest done (new_state x (live spans (count - 1)) given)) (sym rule.after)
-      (pops_newest (recorded (get_or spans (count - 1) d)) (live spans (count - 1)) (live-newest spans count d some few) (accepted (taken m (get_or spans (count - 1) d).at) r tt u rule.answer ok))
+module _ (m m' : Memory) (live older : List Span) (span : Span) (given : ℕ) (newest : live ≡ span ∷ older) (r : Result (Unit {0}) Fault) (rule : Pop m span.at r m') where
+  pub pop-done : (u : Unit {0}) → r ≡ Ok u → Step (new_state m live given) pop_newest done (new_state m' older given)
+  pop-done u ok = subst (λ x. Step (new_state m live given) pop_newest done (new_state x older given)) (sym rule.after)
+      (pops_newest span older newest (accepted (taken m span.at) r tt u rule.answer ok))
 
-  pop-at-untaken : (f : Fault) → r ≡ Err f → Step (new_state m (live spans count) given) pop_newest (refused (Allocator Address)) (new_state m' (live spans count) given)
-  pop-at-untaken f err =
-      let off : taken m (get_or spans (count - 1) d).at ≡ false = declined (taken m (get_or spans (count - 1) d).at) r tt f rule.answer err in
-      let same : m' ≡ m = rule.after ∙ popped-untaken m (get_or spans (count - 1) d).at off in
-      subst (λ x. Step (new_state m (live spans count) given) pop_newest (refused (Allocator Address)) (new_state x (live spans count) given)) (sym same)
-      (refuses (pop_newest_untaken (recorded (get_or spans (count - 1) d)) (live spans (count - 1)) (live-newest spans count d some few) off))
-
-  pub pop-faulted : (f : Fault) → r ≡ Err f → Step (new_state m (live spans count) given) pop_newest (refused (Allocator f)) (new_state m' (live spans count) given)
+  pub pop-faulted : (f : Fault) → r ≡ Err f → Step (new_state m live given) pop_newest (refused (Allocator f)) (new_state m' live given)
   pop-faulted f err =
-      let is : f ≡ Address = refused-address (taken m (get_or spans (count - 1) d).at) tt f (sym err ∙ rule.answer) in
-      subst (λ x. Step (new_state m (live spans count) given) pop_newest (refused (Allocator x)) (new_state m' (live spans count) given)) (sym is) (pop-at-untaken f err)
+      let is : f ≡ Address = refused-address (taken m span.at) tt f (sym err ∙ rule.answer) in
+      let off : taken m span.at ≡ false = declined (taken m span.at) r tt f rule.answer err in
+      let same : m' ≡ m = rule.after ∙ popped-untaken m span.at off in
+      rw (is, same) (refuses (pop_newest_untaken span older newest off))
 
 -- a pop by the newest span's grant is the plain pop
 pub pop-by-grant : {s s' : State} {answer : Answer} → Step s pop_newest answer s' → (span : Span) (older : List Span) → s.live ≡ span ∷ older → (grant : ℕ) → span.grant ≡ grant → Step s (pop grant) answer s'
@@ -163,9 +154,9 @@ push-refused m m' size align f (allocators.refused fit cause answer after) = ((c
 pub sized-as : (P : ℕ → ℕ → Type 0) {size align size' align' : ℕ} → size ≡ size' → align ≡ align' → P size align → P size' align'
 sized-as P {size = size} {align' = align'} e e' p = subst (λ n. P n align') e (subst (λ k. P size k) e' p)
 
-module _ (m : Memory) (spans : List LiveSpan) (count given : ℕ) (l : Layout) (size align : ℕ) (es : l.size ≡ size) (ea : l.align ≡ align) (few : count ≤ length spans) where
+module _ (m : Memory) (live : List Span) (given : ℕ) (l : Layout) (size align : ℕ) (es : l.size ≡ size) (ea : l.align ≡ align) where
   abbrev before : State
-  before = new_state m (live spans count) given
+  before = new_state m live given
 
   sized : Sized l.size
   sized = (l.some, l.small)
@@ -176,28 +167,19 @@ module _ (m : Memory) (spans : List LiveSpan) (count given : ℕ) (l : Layout) (
   at-layout : {answer : Answer} {s' : State} → Step before (push l.size l.align) answer s' → Step before (push size align) answer s'
   at-layout {answer = answer} {s' = s'} step = sized-as (λ n k. Step before (push n k) answer s') es ea step
 
-  pub push-full : ((count ≡ 64) ⊎ (4294967295 ≤ given)) → Step before (push size align) (refused Full) before
-  push-full why =
-      let all : TooMany before = elim why [ inl e ↦ inl (omega (arith, live-length spans count few)) | inr h ↦ inr h ] in
-      at-layout (refuses (full sized aligning all))
+  pub push-full : TooMany before → Step before (push size align) (refused Full) before
+  push-full all = at-layout (refuses (full sized aligning all))
 
-  module _ (less : count < 64) (left : given < 4294967295) (m' : Memory) where
-    room : TooMany before → ⊥
-    room (inl h) = omega (arith, live-length spans count few)
-    room (inr h) = omega arith
-
-    pub push-served : (at : ℕ) → Push m l.size l.align (Ok at) m' → (span : LiveSpan) → count < length spans → recorded span ≡ new_span (given + 1) at l.size l.align →
-        Step before (push size align) (granted (given + 1) at) (new_state m' (live (set spans count span) (count + 1)) (given + 1))
-    push-served at rule span inside is =
-        let whole : live (set spans count span) (count + 1) ≡ new_span (given + 1) at l.size l.align ∷ live spans count = live-set spans count span inside ∙ ap (λ x. x ∷ live spans count) is in
+  module _ (room : TooMany before → ⊥) (m' : Memory) where
+    pub push-served : (at : ℕ) → Push m l.size l.align (Ok at) m' →
+        Step before (push size align) (granted (given + 1) at) (new_state m' (new_span (given + 1) at l.size l.align ∷ live) (given + 1))
+    push-served at rule =
         at-layout
-        (subst (λ x. Step before (push l.size l.align) (granted (given + 1) at) (new_state m' x (given + 1))) (sym whole)
-        (subst (λ n. Step before (push l.size l.align) (granted n at) (new_state m' (new_span n at l.size l.align ∷ live spans count) n)) (sym (add-one given))
-        (serves sized aligning room rule)))
+        (subst (λ n. Step before (push l.size l.align) (granted n at) (new_state m' (new_span n at l.size l.align ∷ live) n)) (sym (add-one given))
+        (serves sized aligning room rule))
 
-    pub push-unserved : (f : Fault) → Push m l.size l.align (Err f) m' → Step before (push size align) (refused (Allocator f)) (new_state m' (live spans count) given)
+    pub push-unserved : (f : Fault) → Push m l.size l.align (Err f) m' → Step before (push size align) (refused (Allocator f)) (new_state m' live given)
     push-unserved f rule =
         let ((cause, is), same, unfit) = push-refused m m' l.size l.align f rule in
-        subst (λ x. Step before (push size align) (refused (Allocator x)) (new_state m' (live spans count) given)) (sym is)
-        (subst (λ x. Step before (push size align) (refused (Allocator (DoesNotFit cause))) (new_state x (live spans count) given)) (sym same)
-        (at-layout (refuses (does_not_fit sized aligning room cause (allocators.refused unfit cause refl refl)))))
+        subst (λ x. Step before (push size align) (refused (Allocator f)) (new_state x live given)) (sym same)
+        (rw is (at-layout (refuses (does_not_fit sized aligning room cause (allocators.refused unfit cause refl refl)))))

@@ -14,13 +14,13 @@ use Rattle.session.specs.Steps.{new_state, TooMany, Step, refuses, serves, pops,
 use Rattle.session.specs.Runs.{opened, visited}
 use Rattle.session.specs.Growth as Growth
 use Rattle.session.specs.Growth.{LeastPower}
-use Rattle.session.specs.Figures.{block, LandsOnPopped, GrowsAndPops, RefusesAndReads, GrowsOnce, SessionFigures}
+use Rattle.session.specs.Figures.{Blocks, block, LandsOnPopped, GrowsAndPops, RefusesAndReads, GrowsOnce, SessionFigures}
 use Rattle.session.specs.declared.live.LiveSpan.{LiveSpan}
 use Rattle.session.specs.declared.session.Session.{Session}
 
 -- a session over bare blocks, with these records
-abbrev session : Memory → List LiveSpan → (count : ℕ) → ℕ → count ≤ 64 → Session Memory
-session m spans count given few = record { inner = m; spans = spans; count = count; given = given; few = few }
+abbrev session : (m : Memory) → Lawful m → List LiveSpan → ℕ → Session Blocks
+session m lawful spans given = record { inner = record { memory = m; lawful = lawful }; spans = record { items = spans }; given = given }
 
 abbrev span : ℕ → ℕ → (size align : ℕ) → Sized size → Aligning align → LiveSpan
 span grant at size align sized aligning =
@@ -57,31 +57,26 @@ lands =
     let s₂ = span 2 8 8 8 (omega arith, omega arith) eight in
     let s₃ = span 3 8 1 1 (omega arith, omega arith) one in
     record {
-      first = session (block 0 0 32 ∷ []) [] 0 0 (omega arith);
-      last = session (block 0 9 32 ∷ []) (s₁ ∷ s₃ ∷ []) 2 3 (omega arith);
-      sound = alone 0 0 32 (omega arith) (omega arith);
+      first = session (block 0 0 32 ∷ []) (alone 0 0 32 (omega arith) (omega arith)) [] 0;
+      last = session (block 0 9 32 ∷ []) (alone 0 9 32 (omega arith) (omega arith)) (s₁ ∷ s₃ ∷ []) 3;
       opens = refl;
-      run = visited {s = session (block 0 8 32 ∷ []) (s₁ ∷ s₂ ∷ []) 1 2 (omega arith)}
-          (visited {s = session (block 0 16 32 ∷ []) (s₁ ∷ s₂ ∷ []) 2 2 (omega arith)}
-          (visited {s = session (block 0 1 32 ∷ []) (s₁ ∷ []) 1 1 (omega arith)}
-          (visited opened (λ sound. record {
+      run = visited {s = session (block 0 8 32 ∷ []) (alone 0 8 32 (omega arith) (omega arith)) (s₁ ∷ []) 2}
+          (visited {s = session (block 0 16 32 ∷ []) (alone 0 16 32 (omega arith) (omega arith)) (s₁ ∷ s₂ ∷ []) 2}
+          (visited {s = session (block 0 1 32 ∷ []) (alone 0 1 32 (omega arith) (omega arith)) (s₁ ∷ []) 1}
+          (visited opened (record {
             step = serve (block 0 0 32 ∷ []) [] 0 1 1 (omega arith, omega arith) one (omega arith) (omega arith) refl;
-            sound = alone 0 1 32 (omega arith) (omega arith);
             own = tt;
           }))
-          (λ sound. record {
+          (record {
             step = serve (block 0 1 32 ∷ []) (new_span 1 0 1 1 ∷ []) 1 8 8 (omega arith, omega arith) eight (omega arith) (omega arith) refl;
-            sound = alone 0 16 32 (omega arith) (omega arith);
             own = tt;
           }))
-          (λ sound. record {
+          (record {
             step = pops_newest (new_span 2 8 8 8) (new_span 1 0 1 1 ∷ []) refl refl;
-            sound = alone 0 8 32 (omega arith) (omega arith);
             own = tt;
           }))
-          (λ sound. record {
+          (record {
             step = serve (block 0 8 32 ∷ []) (new_span 1 0 1 1 ∷ []) 2 1 1 (omega arith, omega arith) one (omega arith) (omega arith) refl;
-            sound = alone 0 9 32 (omega arith) (omega arith);
             own = tt;
           });
       ends = refl;
@@ -101,31 +96,26 @@ grows =
     let s₁ = span 1 16 12 4 (omega arith, omega arith) four in
     let s₂ = span 2 64 24 8 (omega arith, omega arith) eight in
     record {
-      first = session (block 16 0 16 ∷ []) [] 0 0 (omega arith);
-      last = session (block 64 0 48 ∷ block 16 16 16 ∷ []) (s₁ ∷ s₂ ∷ []) 0 2 (omega arith);
-      sound = alone 16 0 16 (omega arith) (omega arith);
+      first = session (block 16 0 16 ∷ []) (alone 16 0 16 (omega arith) (omega arith)) [] 0;
+      last = session (block 64 0 48 ∷ block 16 16 16 ∷ []) (both 0 (omega arith)) [] 2;
       opens = refl;
-      run = visited {s = session (block 64 0 48 ∷ block 16 16 16 ∷ []) (s₁ ∷ s₂ ∷ []) 1 2 (omega arith)}
-          (visited {s = session (block 64 24 48 ∷ block 16 16 16 ∷ []) (s₁ ∷ s₂ ∷ []) 2 2 (omega arith)}
-          (visited {s = session (block 16 12 16 ∷ []) (s₁ ∷ []) 1 1 (omega arith)}
-          (visited opened (λ sound. record {
+      run = visited {s = session (block 64 0 48 ∷ block 16 16 16 ∷ []) (both 0 (omega arith)) (s₁ ∷ []) 2}
+          (visited {s = session (block 64 24 48 ∷ block 16 16 16 ∷ []) (both 24 (omega arith)) (s₁ ∷ s₂ ∷ []) 2}
+          (visited {s = session (block 16 12 16 ∷ []) (alone 16 12 16 (omega arith) (omega arith)) (s₁ ∷ []) 1}
+          (visited opened (record {
             step = serve (block 16 0 16 ∷ []) [] 0 12 4 (omega arith, omega arith) four (omega arith) (omega arith) refl;
-            sound = alone 16 12 16 (omega arith) (omega arith);
             own = tt;
           }))
-          (λ sound. record {
+          (record {
             step = serves (omega arith, omega arith) eight (few-live (block 16 12 16 ∷ []) (new_span 1 16 12 4 ∷ []) 1 (omega arith) (omega arith)) (allocators.further refl (block 64 24 48) refl refl refl);
-            sound = both 24 (omega arith);
             own = tt;
           }))
-          (λ sound. record {
+          (record {
             step = pops_newest (new_span 2 64 24 8) (new_span 1 16 12 4 ∷ []) refl refl;
-            sound = both 0 (omega arith);
             own = tt;
           }))
-          (λ sound. record {
+          (record {
             step = pops (new_span 1 16 12 4) [] refl refl;
-            sound = both 0 (omega arith);
             own = tt;
           });
       ends = refl;
@@ -138,41 +128,36 @@ only-first other (inr none) e = none
 reads : RefusesAndReads
 reads =
     let s₁ = span 1 0 8 8 (omega arith, omega arith) eight in
-    let there = session (block 0 8 16 ∷ []) (s₁ ∷ []) 1 1 (omega arith) in
-    let stored = session (record { base = 0; mark = 8; bytes = 0 ∷ 0 ∷ 0 ∷ 7 ∷ 0 ∷ 0 ∷ 0 ∷ 0 ∷ 0 ∷ 0 ∷ 0 ∷ 0 ∷ 0 ∷ 0 ∷ 0 ∷ 0 ∷ [] } ∷ []) (s₁ ∷ []) 1 1 (omega arith) in
+    let there = session (block 0 8 16 ∷ []) (alone 0 8 16 (omega arith) (omega arith)) (s₁ ∷ []) 1 in
+    let stored = session (record { base = 0; mark = 8; bytes = 0 ∷ 0 ∷ 0 ∷ 7 ∷ 0 ∷ 0 ∷ 0 ∷ 0 ∷ 0 ∷ 0 ∷ 0 ∷ 0 ∷ 0 ∷ 0 ∷ 0 ∷ 0 ∷ [] } ∷ []) (omega arith, omega arith, (λ at e. refl), tt, tt) (s₁ ∷ []) 1 in
     let here : Span = new_span 1 0 8 8 in
     record {
-      first = session (block 0 0 16 ∷ []) [] 0 0 (omega arith);
+      first = session (block 0 0 16 ∷ []) (alone 0 0 16 (omega arith) (omega arith)) [] 0;
       last = stored;
-      sound = alone 0 0 16 (omega arith) (omega arith);
       opens = refl;
       run = visited {s = stored}
           (visited {s = there}
           (visited {s = there}
           (visited {s = there}
           (visited {s = there}
-          (visited opened (λ sound. record {
+          (visited opened (record {
             step = serve (block 0 0 16 ∷ []) [] 0 8 8 (omega arith, omega arith) eight (omega arith) (omega arith) refl;
-            sound = alone 0 8 16 (omega arith) (omega arith);
             own = tt;
           }))
-          (λ sound. record {
+          (record {
             step = refuses (does_not_fit (omega arith, omega arith) one (few-live (block 0 8 16 ∷ []) (new_span 1 0 8 8 ∷ []) 1 (omega arith) (omega arith)) FixedBuffer (allocators.refused refl FixedBuffer refl refl));
-            sound = sound;
             own = tt;
           }))
-          (λ sound. record {
+          (record {
             step = refuses (pop_not_live (λ (other, among, e). only-first other among e));
-            sound = sound;
             own = λ ne. refl;
           }))
-          (λ sound. record { step = refuses (load_outside here (inl refl) (omega arith)); sound = sound; own = refl }))
-          (λ sound. record {
+          (record { step = refuses (load_outside here (inl refl) (omega arith)); own = refl }))
+          (record {
             step = stores here 3 7 (inl refl) (omega arith) refl;
-            sound = (omega arith, omega arith, (λ at e. refl), tt, tt);
             own = (here, inl refl, refl, tt);
           }))
-          (λ sound. record { step = loads here 3 (inl refl) (omega arith) refl; sound = sound; own = refl });
+          (record { step = loads here 3 (inl refl) (omega arith) refl; own = refl });
       ends = refl;
     }
 

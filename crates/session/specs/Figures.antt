@@ -13,13 +13,17 @@ use Rattle.session.specs.Growth.{Life, held}
 use Rattle.session.specs.declared.fault.Fault.TheVariants.{NotLive, Outside, Allocator}
 use Rattle.session.specs.declared.session.Session.{Session}
 
+-- blocks that keep the rules of memory
+pub record Blocks : Type 0 where
+  pub memory : Memory
+  pub lawful : Lawful memory
+
 -- blocks alone, as an allocator under the rules of all and no others
-abbrev pub bare : Ghosts Memory
+abbrev pub bare : Ghosts Blocks
 bare =
     record {
-      blocks = λ m. m;
-      sound = Lawful;
-      lawful = λ m lawful. lawful;
+      blocks = λ m. m.memory;
+      lawful = λ m. m.lawful;
       pushes = λ m size align r m'. Unit {0};
       pops = λ m at size r m'. Unit {0};
       stores = λ m at byte r m'. Unit {0};
@@ -27,9 +31,8 @@ bare =
 
 -- a session that is opened on these blocks comes to that state by these calls, the newest first
 pub record Comes (start : Memory) (events : List Event) (end : State) : Type 0 where
-  pub first : Session Memory
-  pub last : Session Memory
-  pub sound : Lawful start
+  pub first : Session Blocks
+  pub last : Session Blocks
   pub opens : state bare first ≡ fresh start
   pub run : Run bare first events last
   pub ends : state bare last ≡ end

@@ -73,10 +73,10 @@ Grew m growths size align m' growths' =
 
 -- an allocator whose own rules say that it grows as an arena does, and counts its growths
 pub record GrowsAsArena {A : Type 0} (allocator : Ghosts A) (growths : A → ℕ) : Type 0 where
-  pub pushes : (a a' : A) (size align : ℕ) (r : Result ℕ Fault) → allocator.sound a → allocator.sound a' → allocator.pushes a size align r a' →
+  pub pushes : (a a' : A) (size align : ℕ) (r : Result ℕ Fault) → allocator.pushes a size align r a' →
       Grew (allocator.blocks a) (growths a) size align (allocator.blocks a') (growths a')
-  pub pops : (a a' : A) (at size : ℕ) (r : Result (Unit {0}) Fault) → allocator.sound a → allocator.sound a' → allocator.pops a at size r a' → growths a' ≡ growths a
-  pub stores : (a a' : A) (at byte : ℕ) (r : Result (Unit {0}) Fault) → allocator.sound a → allocator.sound a' → allocator.stores a at byte r a' → growths a' ≡ growths a
+  pub pops : (a a' : A) (at size : ℕ) (r : Result (Unit {0}) Fault) → allocator.pops a at size r a' → growths a' ≡ growths a
+  pub stores : (a a' : A) (at byte : ℕ) (r : Result (Unit {0}) Fault) → allocator.stores a at byte r a' → growths a' ≡ growths a
 
 -- the largest need of these calls, and of what was before them
 abbrev pub largest_need : ℕ → List Event → ℕ
@@ -85,7 +85,7 @@ largest_need before (last ∷ earlier) = max (largest_need before earlier) (need
 
 -- Of every run from the session over such an allocator: it goes on with the arena's life, and the blocks stay bounded.
 abbrev pub GrowthLaw : {A : Type 0} → Ghosts A → Session A → Type 0
-GrowthLaw {A} allocator first = (growths : A → ℕ) → GrowsAsArena allocator growths → allocator.sound first.inner →
+GrowthLaw {A} allocator first = (growths : A → ℕ) → GrowsAsArena allocator growths →
     (size before : ℕ) → Life size (state allocator first).memory [] (state allocator first) (growths first.inner) before →
     (events : List Event) (s : Session A) → Run allocator first events s →
     Life size (state allocator first).memory events (state allocator s) (growths s.inner) (largest_need before events)

@@ -8,11 +8,10 @@ use Rattle.session.specs.Laws.{Separation, Need}
 use Rattle.session.specs.Runs.{Run}
 use Rattle.session.specs.declared.session.Session.{Session}
 
--- The session came, by whatever calls, from one that was opened on a sound allocator.
+-- The session came, by whatever calls, from one that was just opened.
 pub record Regular {A : Type 0} (allocator : Ghosts A) (s : Session A) : Type 0 where
   pub first : Session A
   pub fresh : state allocator first ≡ fresh (state allocator first).memory
-  pub sound : allocator.sound first.inner
   pub events : List Event
   pub run : Run allocator first events s
 
@@ -36,7 +35,7 @@ pub record Holds {A : Type 0} (allocator : Ghosts A) (first : Session A) (events
   pub need : Need (state allocator first).memory (ledger_of events) (state allocator s)
 
 abbrev pub JobLaw : {A : Type 0} → Ghosts A → Session A → Type 0
-JobLaw {A} allocator first = allocator.sound first.inner → (events : List Event) (s : Session A) → Job allocator first events s → Holds allocator first events s
+JobLaw {A} allocator first = (events : List Event) (s : Session A) → Job allocator first events s → Holds allocator first events s
 
 -- none of these calls stored through the grant
 abbrev pub Unstored : ℕ → List Event → Type 0

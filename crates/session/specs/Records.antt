@@ -1,5 +1,5 @@
--- A session's record of its live spans: an array, the oldest first.
-use Rattle.std.specs.Prelude.{◌≡◌, ℕ, ◌+◌, ◌-◌, ◌^◌, ◌<◌, ◌≤◌, min, List, [], ◌∷◌, take, ◌≢◌}
+-- A session's record of its live spans, the oldest first.
+use Rattle.std.specs.Prelude.{◌≡◌, ℕ, ◌+◌, ◌-◌, ◌^◌, ◌<◌, ◌≤◌, min, List, map, reverse, ◌≢◌}
 use Rattle.session.specs.Ledger.{Span, new_span, Among}
 use Rattle.session.specs.declared.fault.Fault.{Fault}
 use Rattle.session.specs.declared.fault.Fault.TheVariants.{NotNewest, NotLive, Full, Outside, Allocator}
@@ -8,14 +8,9 @@ use Rattle.session.specs.declared.live.LiveSpan.{LiveSpan}
 abbrev pub recorded : LiveSpan → Span
 recorded span = new_span span.grant span.at span.layout.size span.layout.align
 
--- some records, each on top of those before it
-abbrev pub onto : List LiveSpan → List Span → List Span
-onto [] older = older
-onto (span ∷ rest) older = onto rest (recorded span ∷ older)
-
 -- the live spans, the newest first
-abbrev pub live : List LiveSpan → ℕ → List Span
-live spans count = onto (take count spans) []
+abbrev pub live : List LiveSpan → List Span
+live spans = map recorded (reverse spans)
 
 -- no live span has the grant
 abbrev pub NotAmong : List Span → ℕ → Type 0

@@ -14,6 +14,6 @@ pub data Run {A : Type 0} (allocator : Ghosts A) (first : Session A) : List Even
 
 -- Separation and need hold after every run from the session, whatever was called and answered. Each moment of a run is the end of a shorter one.
 abbrev pub SessionLaw : {A : Type 0} → Ghosts A → Session A → Type 0
-SessionLaw {A} allocator first = allocator.sound first.inner →
+SessionLaw {A} allocator first =
     (events : List Event) (s : Session A) → Run allocator first events s →
     Separation (ledger_of events) (state allocator s) × Need (state allocator first).memory (ledger_of events) (state allocator s)

@@ -30,7 +30,7 @@ loaded (Ok value) = byte value
 loaded (Err fault) = refused fault
 
 abbrev pub state : {A : Type 0} → Ghosts A → Session A → State
-state allocator s = record { memory = allocator.blocks s.inner; live = records.live s.spans s.count; given = s.given }
+state allocator s = record { memory = allocator.blocks s.inner; live = records.live s.spans.items; given = s.given }
 
 -- What the allocator's own rules say of a call that led it from a to a'. The session's own refusals leave it as it was.
 module _ {A : Type 0} (allocator : Ghosts A) (a a' : A) where
@@ -76,11 +76,7 @@ module _ {A : Type 0} (allocator : Ghosts A) (a a' : A) where
   Own live (load grant offset) answer = a' ≡ a
   Own live (store grant offset value) answer = OwnDone (OwnStored live grant offset value) answer
 
--- a session whose allocator was sound performed a call
-pub record Performed {A : Type 0} (allocator : Ghosts A) (s : Session A) (call : Call) (answer : Answer) (s' : Session A) : Type 0 where
+-- a session performed a call
+pub record Performs {A : Type 0} (allocator : Ghosts A) (s : Session A) (call : Call) (answer : Answer) (s' : Session A) : Type 0 where
   pub step : Step (state allocator s) call answer (state allocator s')
-  pub sound : allocator.sound s'.inner
   pub own : Own allocator s.inner s'.inner (state allocator s).live call answer
-
-abbrev pub Performs : {A : Type 0} → Ghosts A → Session A → Call → Answer → Session A → Type 0
-Performs allocator s call answer s' = allocator.sound s.inner → Performed allocator s call answer s'

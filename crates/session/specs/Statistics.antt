@@ -14,7 +14,6 @@ abbrev pub tracked : {T : Type 0} → Ghosts T → Ghosts (AllocationTracker T)
 tracked allocator =
     record {
       blocks = λ t. allocator.blocks t.inner;
-      sound = λ t. allocator.sound t.inner;
       lawful = λ t. allocator.lawful t.inner;
       pushes = λ t size align r t'. allocator.pushes t.inner size align r t'.inner × (t'.stats ≡ after_push t.stats size align r);
       pops = λ t at size r t'. allocator.pops t.inner at size r t'.inner × (t'.stats ≡ after_pop t.stats size r);
@@ -30,7 +29,7 @@ pub record Counts (stats : AllocationStats) (ledger : Ledger) : Type 0 where
   pub largest : stats.max_alignment ≡ ledger.largest
   pub capacity : min_capacity stats ≡ need ledger
 
--- so after every run from the session, over a tracker of a sound allocator
+-- so after every run from the session, over a tracker
 abbrev pub StatisticsLaw : {T : Type 0} → Ghosts T → Session (AllocationTracker T) → Type 0
-StatisticsLaw {T} allocator first = allocator.sound first.inner.inner →
+StatisticsLaw {T} allocator first =
     (events : List Event) (s : Session (AllocationTracker T)) → Run (tracked allocator) first events s → Counts s.inner.stats (ledger_of events)

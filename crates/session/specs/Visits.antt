@@ -10,10 +10,9 @@ use Rattle.session.specs.declared.fault.Fault.{Fault}
 use Rattle.session.specs.declared.fault.Fault.TheVariants.{Full, Allocator}
 use Rattle.session.specs.declared.session.Session.{Session}
 
--- the session came, by these calls, from one that was opened on a sound allocator
+-- the session came, by these calls, from one that was just opened
 pub record Visited {A : Type 0} (allocator : Ghosts A) (first : Session A) (events : List Event) (s : Session A) : Type 0 where
   pub law : SessionLaw allocator first
-  pub sound : allocator.sound first.inner
   pub run : Run allocator first events s
 
 -- the byte was read as it was stored, and the live spans are as they were; or there was no room, and nothing changed

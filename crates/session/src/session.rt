@@ -1,17 +1,17 @@
 // An allocator in use, with a record of the live spans.
-ghost use Rattle.std.specs.Prelude.{◌≤◌};
-
 use crate::live::LiveSpan;
+use arrayvec::ArrayVec;
+
+// How many spans may be live at once.
+const MOST_LIVE: usize = 64;
 
 #[derive(Drop)]
 pub struct Session<A> {
     inner: A,
-    // the first `count` of them are live, the oldest first
-    spans: [LiveSpan; 64],
-    count: usize,
+    // the live ones, the oldest first
+    spans: ArrayVec<LiveSpan, MOST_LIVE>,
     // the number of the last grant
     given: u32,
-    ghost few: { count ≤ 64 },
 }
 
 mod calls;

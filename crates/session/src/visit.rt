@@ -12,8 +12,6 @@ pub fn round_trip<A: Allocator>(session: &mut Session<A>, byte: u8) -> Result<u8
     let (grant, _) = session.push(1, 1)?;
     session.store(&grant, 0, byte)?;
     let read = session.load(&grant, 0)?;
-    match session.pop(grant) {
-        Ok(()) => Ok(read),
-        Err((_, fault)) => Err(fault),
-    }
+    session.pop(grant).map_err(|(_, fault)| fault)?;
+    Ok(read)
 }

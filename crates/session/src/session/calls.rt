@@ -1,5 +1,5 @@
 // The calls of a session. None asks anything of its caller: what cannot be served is refused, and changes nothing.
-ghost use Rattle.std.specs.Prelude.{◌≡◌, ℕ, ◌≤◌, IfErr, MatchOption, MatchResult};
+ghost use Rattle.std.specs.Prelude.{◌≡◌, IfErr, MatchOption, MatchResult};
 ghost use Rattle.session.specs.Calls.{push, pop, pop_newest, load, store};
 ghost use Rattle.session.specs.Steps.{fresh};
 ghost use Rattle.session.specs.Records.{live, NotAmong, Found, Held, Addressed, Unaddressed};
@@ -15,34 +15,7 @@ use crate::fault::Fault;
 use crate::grant::Grant;
 use crate::live::LiveSpan;
 use allocator::{AllocationTracker, Allocator, Layout};
-
-// How many spans may be live at once: the length of the record.
-const MOST_LIVE: usize = 64;
-
-// Fills the record where no span is live.
-fn blank() -> LiveSpan {
-    match Layout::from_size_align(1, 1) {
-        Ok(layout) => LiveSpan {
-            grant: 0,
-            at: 0,
-            layout,
-        },
-        Err(_) => unreachable(),
-    }
-}
-
-fn find(spans: &[LiveSpan; 64], count: usize, grant: u32) -> Option<LiveSpan>
-    requires { count ≤ 64 }
-    ensures { MatchOption result (NotAmong (live spans.now count) grant) (λ span. Found (live spans.now count) grant span) }
-{
-    for i in 0..count {
-        let span = spans[i];
-        if span.grant == grant {
-            return Some(span);
-        }
-    }
-    None
-}
+use arrayvec::ArrayVec;
 
 impl<A: Allocator> Session<A> {
     // Every run of calls from here keeps the law.
@@ -55,8 +28,7 @@ impl<A: Allocator> Session<A> {
     {
         Session {
             inner,
-            spans: [blank(); 64],
-            count: 0,
+            spans: ArrayVec::new(),
             given: 0,
         }
     }
@@ -65,12 +37,7 @@ impl<A: Allocator> Session<A> {
     pub fn finish(self) -> A
         ensures { result ≡ self.inner }
     {
-        let Session {
-            inner,
-            spans: _,
-            count: _,
-            given: _,
-        } = self;
+        let Session { inner, .. } = self;
         inner
     }
 
@@ -79,17 +46,16 @@ impl<A: Allocator> Session<A> {
         ensures { Performs A.Allocator self.old (push size align) (pushed result) self.new }
     {
         let layout = Layout::from_size_align(size, align)?;
-        if self.count == MOST_LIVE || self.given == 4294967295 {
+        if self.spans.is_full() || self.given == u32::MAX {
             return Err(Fault::Full);
         }
         let at = self.inner.push_alloc(layout)?;
         let number = self.given + 1;
-        self.spans[self.count] = LiveSpan {
+        self.spans.push(LiveSpan {
             grant: number,
             at,
             layout,
-        };
-        self.count += 1;
+        });
         self.given = number;
         Ok((Grant { number }, at))
     }
@@ -99,34 +65,27 @@ impl<A: Allocator> Session<A> {
         ensures step { Performs A.Allocator self.old (pop grant.number) (popped result) self.new }
         ensures back { IfErr result (λ e. e.0 ≡ grant) }
     {
-        match self.pop_numbered(grant.number) {
-            Ok(()) => Ok(()),
-            Err(fault) => Err((grant, fault)),
-        }
+        self.pop_numbered(grant.number)
+            .map_err(|fault| (grant, fault))
     }
 
     fn pop_numbered(&mut self, grant: u32) -> Result<(), Fault>
         ensures { Performs A.Allocator self.old (pop grant) (ended result) self.new }
     {
-        let Some(_) = find(&self.spans, self.count, grant) else {
-            return Err(Fault::NotLive);
-        };
-        if self.count == 0 || self.spans[self.count - 1].grant != grant {
-            return Err(Fault::NotNewest);
+        self.find(grant).ok_or(Fault::NotLive)?;
+        match self.spans.last() {
+            Some(newest) if newest.grant == grant => self.pop_newest(),
+            _ => Err(Fault::NotNewest),
         }
-        self.pop_newest()
     }
 
     // Gives the newest span back, whatever its grant.
     pub fn pop_newest(&mut self) -> Result<(), Fault>
         ensures { Performs A.Allocator self.old pop_newest (ended result) self.new }
     {
-        if self.count == 0 {
-            return Err(Fault::NotLive);
-        }
-        let newest = self.spans[self.count - 1];
+        let newest = *self.spans.last().ok_or(Fault::NotLive)?;
         self.inner.pop_alloc(newest.at, newest.layout)?;
-        self.count -= 1;
+        self.spans.pop();
         Ok(())
     }
 
@@ -144,13 +103,11 @@ impl<A: Allocator> Session<A> {
         Ok(self.inner.store(at, byte)?)
     }
 
-    // The address of a byte of the grant's span. The spans of a sound allocator end far below the last number, so the sum is not cut.
+    // The address of a byte of the grant's span. The spans of an allocator end far below the last number, so the sum is not cut.
     fn address(&self, grant: &Grant, offset: usize) -> Result<usize, Fault>
         ensures { MatchResult result (λ at. Addressed (state A.Allocator self.now).live grant.now.number offset at) (Unaddressed (state A.Allocator self.now).live grant.now.number offset) }
     {
-        let Some(span) = find(&self.spans, self.count, grant.number) else {
-            return Err(Fault::NotLive);
-        };
+        let span = self.find(grant.number).ok_or(Fault::NotLive)?;
         if offset >= span.layout.size() {
             return Err(Fault::Outside);
         }
@@ -161,10 +118,15 @@ impl<A: Allocator> Session<A> {
     pub fn span_of(&self, grant: &Grant) -> Option<(usize, usize)>
         ensures { MatchOption result (NotAmong (state A.Allocator self.now).live grant.now.number) (λ p. Held (state A.Allocator self.now).live grant.now.number p.0 p.1) }
     {
-        let Some(span) = find(&self.spans, self.count, grant.number) else {
-            return None;
-        };
+        let span = self.find(grant.number)?;
         Some((span.at, span.layout.size()))
+    }
+
+    // The live span of the grant.
+    fn find(&self, grant: u32) -> Option<LiveSpan>
+        ensures { MatchOption result (NotAmong (live self.now.spans.items) grant) (λ span. Found (live self.now.spans.items) grant span) }
+    {
+        self.spans.iter().find(|span| span.grant == grant).copied()
     }
 }
 

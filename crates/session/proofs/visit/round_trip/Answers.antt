@@ -1,28 +1,24 @@
+use Rattle.std.proofs.Common.{◌≡◌, ℕ, arith}
 use Rattle.std.proofs.lemmas.Result.{err_from_is_err_and}
-use Rattle.session.proofs.Visits.{unserved, stored, loaded, popped, ends}
+use Rattle.session.proofs.Visits.{unserved, stored, loaded, accepted, ends}
 use Rattle.session.proofs.visit.round_trip.Goals as goal
 
 pub returns-in_err-grant : goal.returns-in_err-grant
 returns-in_err-grant g c =
     let p = err_from_is_err_and c.from_residual.result c.from_residual.ensures.1 in
-    rw (p.1, p.2) (λ first events here. unserved g.A.Allocator first c.args.session.now events here c.args.byte c.push.new.self c.in_err-grant.field-0.0 c.in_err-grant.ensures)
+    rw (p.1, p.2) (λ first events here. unserved here c.in_err-grant.ensures c.args.byte)
 
 pub returns-in_err-store : goal.returns-in_err-store
-returns-in_err-store g c first events here =
-    absurd (stored g.A.Allocator first c.args.session.now events here c.args.byte c.push.new.self c.in_ok-grant.grant.number c.in_ok-grant.field-0-1 c.in_ok-grant.ensures
-    c.store.new.self c.in_err-store.field-0.0 c.in_err-store.ensures)
+returns-in_err-store g c first events here = absurd (stored here c.in_ok-grant.ensures c.in_err-store.ensures)
 
 pub returns-in_err-read : goal.returns-in_err-read
-returns-in_err-read g c first events here =
-    absurd (loaded g.A.Allocator first c.args.session.now events here c.args.byte c.push.new.self c.in_ok-grant.grant.number c.in_ok-grant.field-0-1 c.in_ok-grant.ensures
-    c.store.new.self c.in_ok-store.ensures c.in_err-read.field-0.0 c.in_err-read.ensures)
+returns-in_err-read g c first events here = absurd (loaded here c.in_ok-grant.ensures c.in_ok-store.ensures c.in_err-read.ensures)
 
-pub returns-in-Err : goal.returns-in-Err
-returns-in-Err g c first events here =
-    absurd (popped g.A.Allocator first c.args.session.now events here c.args.byte c.push.new.self c.in_ok-grant.grant.number c.in_ok-grant.field-0-1 c.in_ok-grant.ensures
-    c.store.new.self c.in_ok-store.ensures c.pop.new.self c.in-Err.fault c.in-Err.ensures.step)
+pub returns-in_err-map_err : goal.returns-in_err-map_err
+returns-in_err-map_err g c first events here =
+    let ok = accepted here c.in_ok-grant.ensures c.in_ok-store.ensures c.pop.result c.pop.ensures.step in
+    let never = rw ok at c.in_err-map_err.ensures.cases in
+    absurd (let z : ◌≡◌ {A = ℕ} 0 1 = cc in omega arith)
 
-pub returns-in-Ok : goal.returns-in-Ok
-returns-in-Ok g c first events here =
-    ends g.A.Allocator first c.args.session.now events here c.args.byte c.push.new.self c.in_ok-grant.grant.number c.in_ok-grant.field-0-1 c.in_ok-grant.ensures
-    c.store.new.self c.in_ok-store.ensures c.in_ok-read.read c.in_ok-read.ensures c.pop.new.self c.in-Ok.ensures.step
+pub returns : goal.returns
+returns g c first events here = ends here c.in_ok-grant.ensures c.in_ok-store.ensures c.in_ok-read.ensures c.pop.ensures.step

@@ -6,9 +6,8 @@ use Rattle.session.proofs.session.Session.load.Goals as goal
 pub returns-in_err-at : goal.returns-in_err-at
 returns-in_err-at g c =
     let p = err_from_is_err_and c.from_residual.result c.from_residual.ensures.1 in
-    rw (p.1, p.2) (λ sound. record {
+    rw (p.1, p.2) (record {
       step = load-unaddressed _ c.args.grant.now.number c.args.offset c.in_err-at.field-0.0 c.in_err-at.ensures;
-      sound = sound;
       own = refl;
     })
 
@@ -16,19 +15,17 @@ pub returns-in_err-load : goal.returns-in_err-load
 returns-in_err-load g c =
     let p = err_from_is_err_and c.from_residual-in_err-load.result c.from_residual-in_err-load.ensures.1 in
     let b = c.in_ok-at.ensures in
-    rw (p.1, p.2) (λ sound. record {
+    rw (p.1, p.2) (record {
       step = load-faulted _ b.span b.among c.args.grant.now.number b.named c.args.offset b.inside c.in_err-load.field-0.0
-          (load-at _ (g.A.Allocator.lawful c.args.self.now.inner sound) c.in_ok-at.at _ b.is _ (c.in_err-load.ensures sound));
-      sound = sound;
+          (load-at _ (g.A.Allocator.lawful c.args.self.now.inner) c.in_ok-at.at _ b.is _ c.in_err-load.ensures);
       own = refl;
     })
 
 pub returns : goal.returns
-returns g c sound =
+returns g c =
     let b = c.in_ok-at.ensures in
     record {
       step = load-done _ b.span b.among c.args.grant.now.number b.named c.args.offset b.inside _ c.in_ok-load.field-0
-          (load-at _ (g.A.Allocator.lawful c.args.self.now.inner sound) c.in_ok-at.at _ b.is _ (c.in_ok-load.ensures sound)) refl;
-      sound = sound;
+          (load-at _ (g.A.Allocator.lawful c.args.self.now.inner) c.in_ok-at.at _ b.is _ c.in_ok-load.ensures) refl;
       own = refl;
     }

@@ -1,39 +1,29 @@
-use Rattle.std.proofs.Common.{◌≡◌, ◌-◌, ◌<◌, ◌≤◌, length, get_or, refl, subst, arith}
+use Rattle.std.proofs.Common.{sym, refl, subst, arith}
+use Rattle.std.proofs.lemmas.Result.{err_from_is_err_and}
 use Rattle.session.specs.Steps.{IsNewest}
-use Rattle.session.specs.Records.{live}
-use Rattle.session.proofs.Records.{live-none, live-newest}
+use Rattle.session.specs.declared.fault.Fault.TheVariants.{NotLive}
+use Rattle.session.proofs.Records.{nothing, live-newest}
 use Rattle.session.proofs.Steps.{pop-dead, pop-older, pop-by-grant}
 use Rattle.session.proofs.session.Session.pop_numbered.Goals as goal
-use Rattle.session.proofs.session.Session.pop_numbered.Goals.{then-self-eq0-via-then-self-eq0, then-self-eq0-via-else-self-eq0+then-self-grant}
+
+pub returns-in_err-ok_or : goal.returns-in_err-ok_or
+returns-in_err-ok_or g c =
+    let p = err_from_is_err_and c.from_residual.result c.from_residual.ensures.1 in
+    let (none, is) = nothing c.find.result NotLive c.in_err-ok_or.field-0.0 c.in_err-ok_or.ensures.value in
+    rw (p.1, p.2, is) (record { step = pop-dead _ c.args.grant (rw none at c.find.ensures); own = λ ne. refl })
+
+pub returns-in-Some : goal.returns-in-Some
+returns-in-Some g c =
+    let last = rw c.deref.ensures.0 at c.in-Some.ensures.value in
+    let newest = live-newest c.args.self.now.spans.items c.in-Some.newest.now (sym last) in
+    record { step = pop-by-grant c.pop_newest.ensures.step _ _ newest c.args.grant (omega arith); own = c.pop_newest.ensures.own }
 
 pub returns-in_default : goal.returns-in_default
-returns-in_default g c sound = record { step = pop-dead _ c.args.grant c.in_default.ensures; sound = sound; own = λ ne. refl }
-
-pub returns-then-self-eq0 : goal.returns-then-self-eq0
-returns-then-self-eq0 g c sound =
-    let s = c.args.self.now in
-    let (here, same) = c.in-Some.ensures in
-    let ne : IsNewest (live s.spans s.count) c.args.grant → ⊥ = λ newest. elim c.then-self-eq0.branch [
-      | then-self-eq0-via-then-self-eq0 w ↦
-          let none : s.count ≡ 0 = omega arith in
-          subst (λ l. IsNewest l c.args.grant) (live-none s.spans s.count none) newest
-      | then-self-eq0-via-else-self-eq0+then-self-grant w ↦
-          let some : 0 < s.count = omega arith in
-          let few : s.count ≤ length s.spans = omega arith in
-          let named = subst (λ l. IsNewest l c.args.grant) (live-newest s.spans s.count w.index-self-self.result some few) newest in
-          omega arith
-    ] in
-    record { step = pop-older _ c.args.grant _ here same ne; sound = sound; own = λ ne. refl }
-
-pub returns : goal.returns
-returns g c sound =
-    let s = c.args.self.now in
-    let some : 0 < s.count = omega arith in
-    let few : s.count ≤ length s.spans = omega arith in
-    let named : (get_or s.spans (s.count - 1) c.index-self-self.result).grant ≡ c.args.grant = omega arith in
-    let performed = c.pop_newest.ensures sound in
+returns-in_default g c =
+    let found = rw c.in_ok-ok_or.ensures.ok_part at c.find.ensures in
+    let last = rw c.deref.ensures.0 at c.in-Some.ensures.value in
+    let newest = live-newest c.args.self.now.spans.items c.in-Some.newest.now (sym last) in
     record {
-      step = pop-by-grant performed.step _ _ (live-newest s.spans s.count c.index-self-self.result some few) c.args.grant named;
-      sound = performed.sound;
-      own = performed.own;
+      step = pop-older _ c.args.grant _ found.0 found.1 (λ is. c.if-newest-grant.false (subst (λ l. IsNewest l c.args.grant) newest is));
+      own = λ ne. refl;
     }
