@@ -82,15 +82,15 @@ grew x x' used used' size align k k' r r' (inr s) =
       λ count. absurd (omega (arith, m, m', ap length s.first)),
     )
 
-pub handle-grows : {S : Type 0} (source : Ghosts S) → GrowsAsArena (handle source) (λ h. h.growths)
+pub handle-grows : {S : Type 0} (source : Ghosts S) → GrowsAsArena (handle source) (λ h. h.arena.growths)
 handle-grows source =
     record {
-      pushes = λ h h' size align r sound sound' own.
-          grew (handle_of source.state h) (handle_of source.state h') h.used h'.used size align sound.kept sound'.kept h.ring.rises h'.ring.rises
+      pushes = λ h h' size align r own.
+          grew (handle_of source.state h) (handle_of source.state h') h.used h'.used size align h.arena.kept h'.arena.kept h.arena.ring.rises h'.arena.ring.rises
           (pushed (handle_of source.state h) (handle_of source.state h') _ size align r own.0);
-      pops = λ h h' at size r sound sound' own. ap (λ (y : Arena). y.growths) own.0;
-      stores = λ h h' at byte r sound sound' own. ap (λ (y : Arena). y.growths) own.0;
+      pops = λ h h' at size r own. ap (λ (y : Arena). y.growths) own.0;
+      stores = λ h h' at byte r own. ap (λ (y : Arena). y.growths) own.0;
     }
 
-pub tracker-grows : {S : Type 0} (source : Ghosts S) → GrowsAsArena (tracked (handle source)) (λ t. t.inner.growths)
-tracker-grows source = tracked-grows (handle source) (λ h. h.growths) (handle-grows source)
+pub tracker-grows : {S : Type 0} (source : Ghosts S) → GrowsAsArena (tracked (handle source)) (λ t. t.inner.arena.growths)
+tracker-grows source = tracked-grows (handle source) (λ h. h.arena.growths) (handle-grows source)

@@ -8,18 +8,17 @@ use Rattle.arena.specs.Arenas.{blocks_of, Consulted}
 use Rattle.arena.specs.Calls.{answered, Pushes, pushing, putting, Put}
 use Rattle.arena.specs.Keeps.{memory-lawful}
 use Rattle.arena.specs.Powers.{wanted}
-use Rattle.arena.specs.Views.{handle_of, memory_at, HandleSound}
+use Rattle.arena.specs.Views.{handle_of, memory_at}
 use Rattle.arena.specs.declared.arena.ArenaHandle.{ArenaHandle}
 
-abbrev pub handle : {S : Type 0} → sources.Ghosts S → Ghosts (ArenaHandle S)
+abbrev pub handle : {S : Type 0} → (source : sources.Ghosts S) → Ghosts (ArenaHandle S source)
 handle source =
     record {
       blocks = λ h. memory_at source.state h;
-      sound = λ h. HandleSound source.sound source.state h;
-      lawful = λ h k. memory-lawful (source.state h.source).blocks (source.lawful h.source k.source) (blocks_of h.ring) h.used k.kept h.ring.rises h.marked;
+      lawful = λ h. memory-lawful (source.state h.arena.source).blocks (source.lawful h.arena.source) (blocks_of h.arena.ring) h.used h.arena.kept h.arena.ring.rises h.marked;
       pushes = λ h size align r h'. Pushes (handle_of source.state h) (fits (memory_at source.state h) size align) size align r (handle_of source.state h')
-          × Consulted source.chooses (pushing (blocks_of h.ring) (fits (memory_at source.state h) size align) size align) h.source (wanted (newest_size (blocks_of h.ring)) size align) (answered r (blocks_of h'.ring)) h'.source;
-      pops = λ h at size r h'. (handle_of source.state h' ≡ handle_of source.state h) × (h'.source ≡ h.source);
+          × Consulted source.chooses (pushing (blocks_of h.arena.ring) (fits (memory_at source.state h) size align) size align) h.arena.source (wanted (newest_size (blocks_of h.arena.ring)) size align) (answered r (blocks_of h'.arena.ring)) h'.arena.source;
+      pops = λ h at size r h'. (handle_of source.state h' ≡ handle_of source.state h) × (h'.arena.source ≡ h.arena.source);
       stores = λ h at byte r h'. (handle_of source.state h' ≡ putting (handle_of source.state h) (taken (memory_at source.state h) at) at byte)
-          × Put source.stores (taken (memory_at source.state h) at) h.source at byte h'.source;
+          × Put source.stores (taken (memory_at source.state h) at) h.arena.source at byte h'.arena.source;
     }

@@ -22,8 +22,8 @@ use source::BlockSource;
 
 // An arena over the source, with a first block of at least the requested capacity. A refusal hands the source back.
 pub fn open<S: BlockSource>(source: S, cap: usize) -> Result<Arena<S>, (ArenaFault, S)>
-    ensures answer { S.BlockSource.sound source → MatchResult result (λ a. Opened S.BlockSource source cap a) (λ e. Unopened S.BlockSource source cap e.0 e.1) }
-    ensures law { S.BlockSource.sound source → IfOk result (λ a. ArenaLaw S.BlockSource a) }
+    ensures answer { MatchResult result (λ a. Opened S.BlockSource source cap a) (λ e. Unopened S.BlockSource source cap e.0 e.1) }
+    ensures law { IfOk result (λ a. ArenaLaw S.BlockSource a) }
 {
     let mut arena = Arena::new(source);
     match arena.with_capacity(cap) {

@@ -9,11 +9,11 @@ pub returns : goal.returns
 returns g c =
     let is = c.track.ensures.inner in
     let a = c.acquire.ensures in
-    let got : Acquired g.S.BlockSource c.args.arena c.acquire.result = record { kept = a.kept; mark = a.mark; after = a.state; gave = a.gave } in
+    let got : Acquired g.S.BlockSource c.args.arena c.acquire.result = record { mark = a.mark; after = a.state; gave = a.gave } in
     record {
-      acquired = subst (λ (h : ArenaHandle g.row.S.Denot). Acquired g.S.BlockSource c.args.arena h) (sym is) got;
+      acquired = subst (λ (h : ArenaHandle g.row.S.Denot g.S.BlockSource). Acquired g.S.BlockSource c.args.arena h) (sym is) got;
       stats = c.track.ensures.stats;
-      fresh = c.track.ensures.fresh ∙ ap (λ (h : ArenaHandle g.row.S.Denot). fresh (memory_at g.S.BlockSource.state h)) (sym is);
+      fresh = c.track.ensures.fresh ∙ ap (λ (h : ArenaHandle g.row.S.Denot g.S.BlockSource). fresh (memory_at g.S.BlockSource.state h)) (sym is);
       law = c.track.ensures.law;
       growth = c.track.ensures.growth;
       statistics = c.track.ensures.statistics;
