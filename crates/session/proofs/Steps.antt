@@ -125,9 +125,6 @@ push-refused m m' size align f (allocators.fitted fit answer after) = absurd (le
 push-refused m m' size align f (allocators.further fit block answer ends after) = absurd (let z : ◌≡◌ {A = ℕ} 0 1 = cc in omega arith)
 push-refused m m' size align f (allocators.refused fit cause answer after) = ((cause, cc), after, fit)
 
-pub sized-as : (P : ℕ → ℕ → Type 0) {size align size' align' : ℕ} → size ≡ size' → align ≡ align' → P size align → P size' align'
-sized-as P {size = size} {align' = align'} e e' p = subst (λ n. P n align') e (subst (λ k. P size k) e' p)
-
 module _ (s : State) (l : Layout) {size align : ℕ} (es : l.size ≡ size) (ea : l.align ≡ align) where
   sized : Sized l.size
   sized = (l.some, l.small)
@@ -136,7 +133,7 @@ module _ (s : State) (l : Layout) {size align : ℕ} (es : l.size ≡ size) (ea 
   aligning = aligning-from-divides l.align l.divides
 
   at-layout : {answer : Answer} {s' : State} → Step s (push l.size l.align) answer s' → Step s (push size align) answer s'
-  at-layout {answer = answer} {s' = s'} step = sized-as (λ n k. Step s (push n k) answer s') es ea step
+  at-layout step = rw (← es, ← ea) step
 
   pub push-full : TooMany s → Step s (push size align) (refused Full) s
   push-full all = at-layout (refuses (full sized aligning all))

@@ -4,7 +4,7 @@ use Rattle.session.specs.Steps.{refuses, nothing_live}
 use Rattle.session.specs.declared.fault.Fault.TheVariants.{NotLive}
 use Rattle.session.proofs.Records.{nothing, live-none, live-newest}
 use Rattle.session.proofs.Steps.{declined, pop-done, pop-faulted}
-use Rattle.session.proofs.Owns.{own-popped, own-untaken}
+use Rattle.session.proofs.Owns.{own-untaken}
 use Rattle.session.proofs.session.Session.pop_newest.Goals as goal
 
 pub returns-in_err-newest : goal.returns-in_err-newest
@@ -34,5 +34,5 @@ returns g c =
     let newest = live-newest s.spans.items c.in_ok-newest.field-0.now (sym last) in
     record {
       step = rw c.pop.ensures.rest (pop-done newest inner.rule);
-      own = own-popped g.A.Allocator s.inner c.pop_alloc.new.self _ _ _ newest inner.own;
+      own = rw newest inner.own;
     }

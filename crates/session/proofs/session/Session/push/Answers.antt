@@ -9,7 +9,7 @@ use Rattle.session.specs.Sessions.{state}
 use Rattle.session.specs.declared.live.LiveSpan.{LiveSpan}
 use Rattle.session.proofs.Records.{live-length, live-more}
 use Rattle.session.proofs.Steps.{push-unlaid, push-full, push-served, push-unserved, push-refused}
-use Rattle.session.proofs.Owns.{own-served, own-unserved, own-unlaid}
+use Rattle.session.proofs.Owns.{own-unserved, own-unlaid}
 use Rattle.session.proofs.session.Session.push.Goals as goal
 use Rattle.session.proofs.session.Session.push.Goals.{then-is_full-via-then-is_full, then-is_full-via-else-is_full+then-self}
 
@@ -50,8 +50,7 @@ returns-in_err-at g c =
     let free = room (g.A.Allocator.blocks s.inner) s.spans.items s.given (sym c.if-is_full.ensures.value) c.if-is_full.ensures.fits (omega arith) in
     rw (p.1, p.2) (record {
       step = push-unserved _ l es ea free inner.rule;
-      own = own-unserved g.A.Allocator s.inner c.push_alloc.new.self l.size l.align c.args.size c.args.align es ea f
-          (push-refused _ _ l.size l.align f inner.rule).0 inner.own;
+      own = own-unserved g.A.Allocator f (push-refused _ _ l.size l.align f inner.rule).0 (rw (es, ea) at inner.own);
     })
 
 pub returns : goal.returns
@@ -63,6 +62,5 @@ returns g c =
     let free = room (g.A.Allocator.blocks s.inner) s.spans.items s.given (sym c.if-is_full.ensures.value) c.if-is_full.ensures.fits (omega arith) in
     record {
       step = rw (c.push.ensures.items, live-more) (push-served _ l es ea free inner.rule);
-      own = own-served g.A.Allocator s.inner c.push_alloc.new.self l.size l.align c.args.size c.args.align es ea
-          c.in_ok-at.at s.given inner.own;
+      own = rw (← es, ← ea) inner.own;
     }
