@@ -1,34 +1,26 @@
 -- What the allocator's own rules say of each way through a call.
-use Rattle.std.proofs.Common.{◌≡◌, ℕ, ◌⊎◌, List, ◌∷◌, Ok, Err, sym, refl, ap, subst, inl, inr}
+use Rattle.std.proofs.Common.{◌≡◌, ℕ, ◌⊎◌, List, Err, sym, refl, ap, subst, inl, inr}
 use Rattle.allocator.specs.Faults.{NoLayout}
 use Rattle.allocator.specs.declared.Allocator.{Ghosts}
 use Rattle.allocator.specs.declared.fault.Cause.{Cause}
 use Rattle.allocator.specs.declared.fault.Fault.{Fault}
 use Rattle.allocator.specs.declared.fault.Fault.TheVariants.{Size, Alignment, DoesNotFit, Address}
 use Rattle.session.specs.Ledger.{Span}
-use Rattle.session.specs.Calls.{Call, push, pop, pop_newest, load, store, granted, refused}
+use Rattle.session.specs.Calls.{Call, push, pop, pop_newest, load, store, refused}
 use Rattle.session.specs.Steps.{State, Refuses, Step, refuses}
-use Rattle.session.specs.Sessions.{OwnFault, OwnUnserved, OwnPush, OwnPopped, Own}
+use Rattle.session.specs.Sessions.{OwnFault, OwnUnserved, Own}
 use Rattle.session.specs.declared.fault.Fault as session
 use Rattle.session.specs.declared.fault.Fault.TheVariants.{NotNewest, NotLive, Full, Outside, Allocator}
-use Rattle.session.proofs.Steps.{sized-as}
 
-module _ {A : Type 0} (al : Ghosts A) (a a' : A) (size align size' align' : ℕ) (es : size ≡ size') (ea : align ≡ align') where
-  pub own-served : (at grant : ℕ) → al.pushes a size align (Ok at) a' → OwnPush al a a' size' align' (granted grant at)
-  own-served at grant own = sized-as (λ n k. al.pushes a n k (Ok at) a') es ea own
-
-  pub own-unserved : (f : Fault) → ((cause : Cause) × (f ≡ DoesNotFit cause)) → al.pushes a size align (Err f) a' → OwnFault al a a' size' align' f
-  own-unserved f (cause, is) own =
-      subst (λ x. OwnFault al a a' size' align' x) (sym is) (sized-as (λ n k. al.pushes a n k (Err (DoesNotFit cause)) a') es ea (subst (λ x. al.pushes a size align (Err x) a') is own))
+pub own-unserved : {A : Type 0} (al : Ghosts A) {a a' : A} {size align : ℕ} (f : Fault) → (cause : Cause) × (f ≡ DoesNotFit cause) → al.pushes a size align (Err f) a' → OwnFault al a a' size align f
+own-unserved al {a} {a'} {size} {align} f (cause, is) own =
+    subst (λ x. OwnFault al a a' size align x) (sym is) (subst (λ x. al.pushes a size align (Err x) a') is own)
 
 pub own-unlaid : {A : Type 0} (al : Ghosts A) (a : A) (size align : ℕ) (f : Fault) → NoLayout size align f → OwnFault al a a size align f
 own-unlaid al a size align Size bad = refl
 own-unlaid al a size align Alignment bad = refl
 own-unlaid al a size align (DoesNotFit cause) bad = absurd bad
 own-unlaid al a size align Address bad = absurd bad
-
-pub own-popped : {A : Type 0} (al : Ghosts A) (a a' : A) (live older : List Span) (span : Span) → live ≡ span ∷ older → al.pops a span.at span.size (Ok tt) a' → OwnPopped al a a' live
-own-popped al a a' live older span newest own = subst (λ l. OwnPopped al a a' l) (sym newest) own
 
 -- an allocator refuses an address only as such
 pub own-untaken : {A : Type 0} (a a' : A) (f : Fault) → f ≡ Address → (Allocator f ≡ Allocator Address → ⊥) → a' ≡ a

@@ -10,7 +10,7 @@ use Rattle.session.specs.declared.fault.Fault.{Fault}
 use Rattle.session.specs.declared.fault.Fault.TheVariants.{Full, Allocator}
 use Rattle.session.specs.declared.session.Session.{Session}
 
--- the session came, by these calls, from one that was just opened
+-- the session came, by these calls, from one that keeps the law
 pub record Visited {A : Type 0} (allocator : Ghosts A) (first : Session A) (events : List Event) (s : Session A) : Type 0 where
   pub law : SessionLaw allocator first
   pub run : Run allocator first events s

@@ -1,6 +1,6 @@
 use Rattle.std.proofs.Common.{refl}
 use Rattle.std.proofs.lemmas.Result.{err_from_is_err_and}
-use Rattle.session.proofs.Steps.{load-at, load-unaddressed, load-done, load-faulted}
+use Rattle.session.proofs.Steps.{load-unaddressed, load-done, load-faulted}
 use Rattle.session.proofs.session.Session.load.Goals as goal
 
 pub returns-in_err-at : goal.returns-in_err-at
@@ -14,18 +14,10 @@ returns-in_err-at g c =
 pub returns-in_err-load : goal.returns-in_err-load
 returns-in_err-load g c =
     let p = err_from_is_err_and c.from_residual-in_err-load.result c.from_residual-in_err-load.ensures.1 in
-    let b = c.in_ok-at.ensures in
-    rw (p.1, p.2) (record {
-      step = load-faulted _ b.span b.among c.args.grant.now.number b.named c.args.offset b.inside c.in_err-load.field-0.0
-          (load-at _ (g.A.Allocator.lawful c.args.self.now.inner) c.in_ok-at.at _ b.is _ c.in_err-load.ensures);
-      own = refl;
-    })
+    let lawful = g.A.Allocator.lawful c.args.self.now.inner in
+    rw (p.1, p.2) (record { step = load-faulted _ lawful c.in_ok-at.ensures c.in_err-load.ensures; own = refl })
 
 pub returns : goal.returns
 returns g c =
-    let b = c.in_ok-at.ensures in
-    record {
-      step = load-done _ b.span b.among c.args.grant.now.number b.named c.args.offset b.inside _ c.in_ok-load.field-0
-          (load-at _ (g.A.Allocator.lawful c.args.self.now.inner) c.in_ok-at.at _ b.is _ c.in_ok-load.ensures) refl;
-      own = refl;
-    }
+    let lawful = g.A.Allocator.lawful c.args.self.now.inner in
+    record { step = load-done _ lawful c.in_ok-at.ensures c.in_ok-load.ensures; own = refl }

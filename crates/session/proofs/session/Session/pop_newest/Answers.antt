@@ -3,8 +3,8 @@ use Rattle.std.proofs.lemmas.Result.{err_from_is_err_and}
 use Rattle.session.specs.Steps.{refuses, nothing_live}
 use Rattle.session.specs.declared.fault.Fault.TheVariants.{NotLive}
 use Rattle.session.proofs.Records.{nothing, live-none, live-newest}
-use Rattle.session.proofs.Steps.{refused-address, pop-done, pop-faulted}
-use Rattle.session.proofs.Owns.{own-popped, own-untaken}
+use Rattle.session.proofs.Steps.{declined, pop-done, pop-faulted}
+use Rattle.session.proofs.Owns.{own-untaken}
 use Rattle.session.proofs.session.Session.pop_newest.Goals as goal
 
 pub returns-in_err-newest : goal.returns-in_err-newest
@@ -22,8 +22,8 @@ returns-in_err-pop_alloc g c =
     let rule = c.in_err-pop_alloc.ensures.rule in
     let last = rw (c.deref.ensures.0, c.in_ok-newest.ensures.ok_part) at c.last.ensures.value in
     rw (p.1, p.2) (record {
-      step = pop-faulted _ _ _ _ _ s.given (live-newest s.spans.items c.in_ok-newest.field-0.now (sym last)) _ rule f refl;
-      own = own-untaken s.inner c.pop_alloc.new.self f (refused-address _ tt f rule.answer);
+      step = pop-faulted (live-newest s.spans.items c.in_ok-newest.field-0.now (sym last)) rule;
+      own = own-untaken s.inner c.pop_alloc.new.self f (declined _ tt rule.answer).1;
     })
 
 pub returns : goal.returns
@@ -33,6 +33,6 @@ returns g c =
     let last = rw (c.deref.ensures.0, c.in_ok-newest.ensures.ok_part) at c.last.ensures.value in
     let newest = live-newest s.spans.items c.in_ok-newest.field-0.now (sym last) in
     record {
-      step = rw c.pop.ensures.rest (pop-done _ _ _ _ _ s.given newest _ inner.rule _ refl);
-      own = own-popped g.A.Allocator s.inner c.pop_alloc.new.self _ _ _ newest inner.own;
+      step = rw c.pop.ensures.rest (pop-done newest inner.rule);
+      own = rw newest inner.own;
     }

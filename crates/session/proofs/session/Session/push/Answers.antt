@@ -9,7 +9,7 @@ use Rattle.session.specs.Sessions.{state}
 use Rattle.session.specs.declared.live.LiveSpan.{LiveSpan}
 use Rattle.session.proofs.Records.{live-length, live-more}
 use Rattle.session.proofs.Steps.{push-unlaid, push-full, push-served, push-unserved, push-refused}
-use Rattle.session.proofs.Owns.{own-served, own-unserved, own-unlaid}
+use Rattle.session.proofs.Owns.{own-unserved, own-unlaid}
 use Rattle.session.proofs.session.Session.push.Goals as goal
 use Rattle.session.proofs.session.Session.push.Goals.{then-is_full-via-then-is_full, then-is_full-via-else-is_full+then-self}
 
@@ -37,7 +37,7 @@ returns-then-is_full g c =
           inl (omega (arith, live-length s.spans.items))
       | then-is_full-via-else-is_full+then-self w ↦ inr (omega arith)
     ] in
-    record { step = push-full _ _ s.given c.in_ok-layout.layout c.args.size c.args.align es ea all; own = refl }
+    record { step = push-full _ c.in_ok-layout.layout es ea all; own = refl }
 
 pub returns-in_err-at : goal.returns-in_err-at
 returns-in_err-at g c =
@@ -49,9 +49,8 @@ returns-in_err-at g c =
     let inner = c.in_err-at.ensures in
     let free = room (g.A.Allocator.blocks s.inner) s.spans.items s.given (sym c.if-is_full.ensures.value) c.if-is_full.ensures.fits (omega arith) in
     rw (p.1, p.2) (record {
-      step = push-unserved _ _ s.given l c.args.size c.args.align es ea free _ f inner.rule;
-      own = own-unserved g.A.Allocator s.inner c.push_alloc.new.self l.size l.align c.args.size c.args.align es ea f
-          (push-refused _ _ l.size l.align f inner.rule).0 inner.own;
+      step = push-unserved _ l es ea free inner.rule;
+      own = own-unserved g.A.Allocator f (push-refused _ _ l.size l.align f inner.rule).0 (rw (es, ea) at inner.own);
     })
 
 pub returns : goal.returns
@@ -62,7 +61,6 @@ returns g c =
     let inner = c.in_ok-at.ensures in
     let free = room (g.A.Allocator.blocks s.inner) s.spans.items s.given (sym c.if-is_full.ensures.value) c.if-is_full.ensures.fits (omega arith) in
     record {
-      step = rw (c.push.ensures.items, live-more) (push-served _ _ s.given l c.args.size c.args.align es ea free _ c.in_ok-at.at inner.rule);
-      own = own-served g.A.Allocator s.inner c.push_alloc.new.self l.size l.align c.args.size c.args.align es ea
-          c.in_ok-at.at s.given inner.own;
+      step = rw (c.push.ensures.items, live-more) (push-served _ l es ea free inner.rule);
+      own = rw (← es, ← ea) inner.own;
     }

@@ -1,6 +1,7 @@
 use Rattle.std.proofs.Common.{Ok, refl, subst}
 use Rattle.std.proofs.lemmas.Result.{err_from_is_err_and}
-use Rattle.session.proofs.Steps.{accepted, refused-address, store-at, taken-at, store-unaddressed, store-done, store-faulted}
+use Rattle.session.specs.Sessions.{state}
+use Rattle.session.proofs.Steps.{accepted, declined, exact, store-unaddressed, store-done, store-faulted}
 use Rattle.session.proofs.Owns.{own-untaken}
 use Rattle.session.proofs.session.Session.store.Goals as goal
 
@@ -15,23 +16,20 @@ returns-in_err-at g c =
 pub returns-in_err-store : goal.returns-in_err-store
 returns-in_err-store g c =
     let p = err_from_is_err_and c.from_residual-in_err-store.result c.from_residual-in_err-store.ensures.1 in
-    let b = c.in_ok-at.ensures in
-    let f = c.in_err-store.field-0.0 in
-    let rule = store-at _ (g.A.Allocator.lawful c.args.self.now.inner) c.in_ok-at.at _ b.is _ _ _ (c.in_err-store.ensures.rule) in
+    let lawful = g.A.Allocator.lawful c.args.self.now.inner in
+    let rule = c.in_err-store.ensures.rule in
     rw (p.1, p.2) (record {
-      step = store-faulted _ b.span b.among c.args.grant.now.number b.named c.args.offset c.args.byte b.inside _ _ rule f refl;
-      own = own-untaken c.args.self.now.inner c.store.new.self f (refused-address _ tt f rule.answer);
+      step = store-faulted _ lawful c.in_ok-at.ensures rule;
+      own = own-untaken c.args.self.now.inner c.store.new.self c.in_err-store.field-0.0 (declined _ tt rule.answer).1;
     })
 
 pub returns : goal.returns
 returns g c =
-    let b = c.in_ok-at.ensures in
-    let inner = c.in_ok-store.ensures in
-    let at = c.in_ok-at.at in
     let lawful = g.A.Allocator.lawful c.args.self.now.inner in
-    let exact = taken-at _ lawful at _ b.is (accepted _ _ tt tt inner.rule.answer refl) in
+    let found = c.in_ok-at.ensures in
+    let inner = c.in_ok-store.ensures in
+    let here = exact (state g.A.Allocator c.args.self.now) lawful found (accepted _ inner.rule.answer).0 in
     record {
-      step = store-done _ b.span b.among c.args.grant.now.number b.named c.args.offset c.args.byte b.inside _ _
-          (store-at _ lawful at _ b.is _ _ _ inner.rule) _ refl;
-      own = (b.span, b.among, b.named, subst (λ x. g.A.Allocator.stores c.args.self.now.inner x c.args.byte (Ok tt) c.store.new.self) exact inner.own);
+      step = store-done _ lawful found inner.rule;
+      own = (found.span, found.among, found.named, subst (λ x. g.A.Allocator.stores c.args.self.now.inner x c.args.byte (Ok tt) c.store.new.self) here inner.own);
     }
