@@ -1,14 +1,15 @@
-use Rattle.std.proofs.Common.{◌≡◌, ◌-◌, List, [], ◌∷◌, sym, refl, ap, ◌∙◌, subst}
-use Rattle.source.specs.Blocks.{Source, Place}
+use Rattle.std.proofs.Common.{◌≡◌, List, [], ◌∷◌, sym, refl, ap, ◌∙◌, subst, rules}
+use Rattle.std.proofs.lemmas.List.{nil_from_length}
+use Rattle.source.specs.Blocks.{Place}
 use Rattle.arena.specs.Rings.{chain, place, newest, before, room}
-use Rattle.arena.specs.Arenas.{blocks_of, given_back, Gave, done}
-use Rattle.arena.specs.Meaning.{Kept}
+use Rattle.arena.specs.Arenas.{blocks_of, Gave, done}
+use Rattle.arena.proofs.Joins.{newest-first}
 use Rattle.arena.proofs.Sources.{shrunk-kept}
 use Rattle.arena.proofs.arena.Arena.shrink.Goals as goal
 
 pub returns-in_default : goal.returns-in_default
 returns-in_default g c =
-    let none = c.in_default.ensures in
+    let none : blocks_of c.args.self.now.ring ≡ [] = ap chain (nil_from_length c.args.self.now.ring.records.items (search rules)) in
     record {
       kept = λ k. k;
       answer = sym (ap room none);
@@ -18,23 +19,13 @@ returns-in_default g c =
 
 pub returns : goal.returns
 returns g c =
-    let first = c.in-Some.ensures.first in
-    let n = c.len-n.ensures in
-    let alone = c.keep_newest.ensures in
-    let e : newest (blocks_of c.args.self.now.ring) ≡ place c.in-Some.b ∷ [] = ap newest first in
-    let d : before (blocks_of c.args.self.now.ring) ≡ chain c.args.self.now.ring.records (c.args.self.now.ring.len - 1) = ap before first in
-    let back : g.S.BlockSource.sound c.args.self.now.source → g.S.BlockSource.state c.give_back.new.source ≡ given_back (g.S.BlockSource.state c.args.self.now.source) (chain c.args.self.now.ring.records (c.args.self.now.ring.len - 1)) =
-    (λ s. rw n at (c.give_back.ensures.state s)) in
+    let first : blocks_of c.args.self.now.ring ≡ place c.in-Some.tail ∷ chain c.in-Some.older.now = newest-first c.args.self.now.ring.records.items c.in-Some.older.now c.in-Some.tail (search rules) in
+    let alone : blocks_of c.keep_newest.new.self ≡ place c.in-Some.tail ∷ [] = c.keep_newest.ensures ∙ ap newest first in
     record {
       kept = λ k.
-          let kk : Kept (g.S.BlockSource.state c.args.self.now.source).blocks (place c.in-Some.b ∷ chain c.args.self.now.ring.records (c.args.self.now.ring.len - 1)) =
-          subst (λ (ps : List Place). Kept (g.S.BlockSource.state c.args.self.now.source).blocks ps) first k.kept in
-          let w = shrunk-kept (g.S.BlockSource.state c.args.self.now.source) (place c.in-Some.b) (chain c.args.self.now.ring.records (c.args.self.now.ring.len - 1)) kk in
-          record {
-            source = c.give_back.ensures.kept k.source;
-            kept = subst (λ (ps : List Place). Kept (g.S.BlockSource.state c.give_back.new.source).blocks ps) (sym (alone ∙ e)) (subst (λ (s : Source). Kept s.blocks (place c.in-Some.b ∷ [])) (sym (back k.source)) w);
-          };
-      answer = ap room (sym first);
-      state = λ k. let q = back k.source in cc;
-      gave = λ k. subst (λ (ps : List Place). Gave g.S.BlockSource.gives c.args.self.now.source ps c.give_back.new.source) (sym d) (rw n at (c.give_back.ensures.own k.source));
+          let w = shrunk-kept (g.S.BlockSource.state c.args.self.now.source) (place c.in-Some.tail) (chain c.in-Some.older.now) (rw first at k.kept) in
+          record { source = c.give_back.ensures.kept k.source; kept = rw (alone, c.give_back.ensures.state k.source) w };
+      answer = rw first (search rules);
+      state = λ k. let q = c.give_back.ensures.state k.source in rw first (cc);
+      gave = λ k. rw first (c.give_back.ensures.own k.source);
     }
