@@ -58,6 +58,7 @@ impl Ring {
     }
 
     // Puts a further block between the newest and the first.
+    #[tactic(auto, using(crate::proofs::Joins::roomy))]
     pub(crate) fn push_next(&mut self, address: usize, size: usize)
         requires some { 16 ≤ size }
         requires small { size ≤ 67108864 }

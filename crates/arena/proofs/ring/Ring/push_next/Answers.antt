@@ -1,22 +1,9 @@
 -- A ring with one more block is a ring, and has that block first.
-use Rattle.std.proofs.Common.{length, refl, ap, arith, rules, length-append}
+use Rattle.std.proofs.Common.{refl, rules}
 use Rattle.arena.specs.Rings.{chain}
-use Rattle.arena.proofs.Joins.{Relinked, none, some, relinked-length, relinked-chain, linked-on, risen, roomy, chain-last}
+use Rattle.arena.proofs.Joins.{Relinked, none, some, relinked-chain, linked-on, risen, chain-last}
 use Rattle.arena.proofs.ring.Ring.push_next.Goals as goal
 use Rattle.arena.proofs.ring.Ring.push_next.Goals.{in-Some, in_default}
-
-pub push-requires : goal.push-requires
-push-requires c =
-    let r = c.args.self.now in
-    let room = roomy r.records.items c.args.size r.rises c.requires.doubles c.requires.small in
-    (search rules, omega (arith, simp length-append at (ap length c.in-Some.ensures.items)))
-
-pub push-requires-2 : goal.push-requires-2
-push-requires-2 c =
-    let r = c.args.self.now in
-    let k : Relinked c.len-n.result c.args.self.now.records.items c.match-pop.self.1.0.items = elim c.match-pop.branch [ in-Some w ↦ some _ _ w.in-Some.ensures.items (search rules) | in_default w ↦ none (search rules) (search rules) ] in
-    let room = roomy r.records.items c.args.size r.rises c.requires.doubles c.requires.small in
-    (search rules, omega (arith, relinked-length _ _ _ k))
 
 pub invariant_of-self : goal.invariant_of-self
 invariant_of-self c =
