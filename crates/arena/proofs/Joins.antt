@@ -9,11 +9,10 @@ use Rattle.std.proofs.lemmas.List.Elements.{All-nil, All-cons}
 use Rattle.std.proofs.lemmas.List.Sums.{sum_by-cons, sum_by-le}
 use Rattle.std.proofs.lemmas.List.Sorted.{IsPermutation-reverse, All-permutation, sum_by-IsPermutation, list_any-IsPermutation}
 use Rattle.allocator.specs.Memory.{spans, taken}
-use Rattle.source.specs.Blocks.{Outstanding}
-use Rattle.arena.specs.Meaning.{olders}
-use Rattle.source.specs.Blocks.{Place}
+use Rattle.source.specs.Blocks.{Outstanding, Place}
 use Rattle.arena.specs.declared.record.BlockRecord.{BlockRecord}
 use Rattle.arena.specs.Rings.{place, chain, after, Linked, newest_size, rising, total}
+use Rattle.arena.specs.Meaning.{olders}
 use Rattle.arena.specs.Keeps.{Rise, rise}
 
 pub risen : (p : Place) (ps : List Place) → 16 ≤ p.size → p.size ≤ 67108864 → p.base < 2 ^ 48 → 2 * newest_size ps ≤ p.size → rising ps ≡ true → rising (p ∷ ps) ≡ true
@@ -23,6 +22,12 @@ risen p ps some small low doubles older =
 -- the last record's block is the newest
 pub chain-last : (rs : List BlockRecord) (r : BlockRecord) → chain (rs ++ r ∷ []) ≡ place r ∷ chain rs
 chain-last rs r = simp reverse-append
+
+pub newest-first : (rs older : List BlockRecord) (r : BlockRecord) → rs ≡ older ++ r ∷ [] → chain rs ≡ place r ∷ chain older
+newest-first rs older r e = ap chain e ∙ chain-last older r
+
+pub last-rise : (rs older : List BlockRecord) (r : BlockRecord) → rs ≡ older ++ r ∷ [] → rising (chain rs) ≡ true → Rise (place r) (chain older)
+last-rise rs older r e rises = rise (place r) (chain older) (sym (ap rising (newest-first rs older r e)) ∙ rises)
 
 chain-length : (rs : List BlockRecord) → length (chain rs) ≡ length rs
 chain-length rs = simp (length-map, length-reverse)
@@ -75,13 +80,6 @@ sizes (r ∷ rs) = ap (λ (n : ℕ). r.size + n) (sizes rs) ∙ sym (sum_by-cons
 
 pub total-sum : (rs : List BlockRecord) → total (chain rs) ≡ sum_by (λ (r : BlockRecord). r.size) rs
 total-sum rs = sizes (reverse rs) ∙ sum_by-IsPermutation _ rs (reverse rs) (IsPermutation-reverse rs)
-
--- the newest block stands first
-pub newest-first : (rs older : List BlockRecord) (r : BlockRecord) → rs ≡ older ++ r ∷ [] → chain rs ≡ place r ∷ chain older
-newest-first rs older r e = ap chain e ∙ chain-last older r
-
-pub last-rise : (rs older : List BlockRecord) (r : BlockRecord) → rs ≡ older ++ r ∷ [] → rising (chain rs) ≡ true → Rise (place r) (chain older)
-last-rise rs older r e rises = rise (place r) (chain older) (sym (ap rising (newest-first rs older r e)) ∙ rises)
 
 -- the limits of a record
 pub record Within (r : BlockRecord) : Type 0 where

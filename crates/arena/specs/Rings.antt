@@ -6,6 +6,7 @@ use Rattle.arena.specs.declared.record.BlockRecord.{BlockRecord}
 abbrev pub place : BlockRecord → Place
 place r = record { base = r.address; size = r.size }
 
+-- the blocks, the newest first
 abbrev pub chain : List BlockRecord → List Place
 chain rs = map place (reverse rs)
 
