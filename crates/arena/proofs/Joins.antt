@@ -1,125 +1,106 @@
--- The table of a ring: with one more block, and with its newest alone.
-use Rattle.std.proofs.Common.{◌≡◌, ℕ, zero, suc, ◌+◌, ◌-◌, ◌*◌, ◌^◌, ◌<◌, ◌≤◌, true, false, ltb, ◌≢◌, List, [], ◌∷◌, length, set, refl, ap, ◌∙◌, subst, inl, inr, add-one, arith, length-set, get_or-set_other, get_or-set_same, pow_mono}
+-- The blocks of a ring: with one more, and their limits.
+use Rattle.std.proofs.Common.{◌≡◌, ℕ, suc, ◌+◌, ◌-◌, ◌||◌, ◌*◌, ◌^◌, ◌<◌, ◌≤◌, true, List, [], ◌∷◌, ◌++◌, length, map, reverse, get_or, refl, sym, subst, append_assoc, length-append, ap, ◌∙◌, inl, inr, arith, pow_mono}
 use native.Mathlib.Nat.{two-pow-succ}
-use Rattle.std.proofs.lemmas.Bool.{cases_lt, lt-ltb, le-ltb, le-leb, and_from}
-use Rattle.source.specs.Blocks.{Place}
+use Rattle.std.proofs.lemmas.Bool.{cases_lt, cases_eq, lt-ltb, le-leb, and_from}
+use Rattle.std.proofs.lemmas.List.{reverse-append, reverse-reverse, length-map, length-reverse, places}
+use Rattle.std.proofs.lemmas.Grind.{common_steps}
+use Rattle.std.specs.List.{All, sum_by, list_any}
+use Rattle.std.proofs.lemmas.List.Elements.{All-nil, All-cons}
+use Rattle.std.proofs.lemmas.List.Sums.{sum_by-cons, sum_by-le}
+use Rattle.std.proofs.lemmas.List.Sorted.{IsPermutation-reverse, All-permutation, sum_by-IsPermutation, list_any-IsPermutation}
+use Rattle.allocator.specs.Memory.{spans, taken}
+use Rattle.source.specs.Blocks.{Outstanding, Place}
 use Rattle.arena.specs.declared.record.BlockRecord.{BlockRecord}
-use Rattle.arena.specs.Rings.{nothing, nth, place, chain, Linked, onto, joined, newest, newest_size, rising, total}
+use Rattle.arena.specs.Rings.{place, chain, after, Linked, newest_size, rising, total}
+use Rattle.arena.specs.Meaning.{olders}
 use Rattle.arena.specs.Keeps.{Rise, rise}
 
 pub risen : (p : Place) (ps : List Place) → 16 ≤ p.size → p.size ≤ 67108864 → p.base < 2 ^ 48 → 2 * newest_size ps ≤ p.size → rising ps ≡ true → rising (p ∷ ps) ≡ true
 risen p ps some small low doubles older =
     and_from _ _ (le-leb 16 p.size some) (and_from _ _ (le-leb p.size 67108864 small) (and_from _ _ (lt-ltb p.base (2 ^ 48) low) (and_from _ _ (le-leb (2 * newest_size ps) p.size doubles) older)))
 
--- the blocks from before are as they were, but for the last one's link
-module _ (rs : List BlockRecord) (n address size : ℕ) (inside : n < length rs) where
-  new : nth (joined rs n address size) n ≡ record { address = address; size = size; next = 0 }
-  new = get_or-set_same (set rs (n - 1) (onto (nth rs (n - 1)) n)) n (record { address = address; size = size; next = 0 }) nothing (simp length-set inside)
+-- the last record's block is the newest
+pub chain-last : (rs : List BlockRecord) (r : BlockRecord) → chain (rs ++ r ∷ []) ≡ place r ∷ chain rs
+chain-last rs r = simp reverse-append
 
-  last : 0 < n → nth (joined rs n address size) (n - 1) ≡ onto (nth rs (n - 1)) n
-  last some =
-      let ne : n - 1 ≢ n = omega arith in
-      let lt : n - 1 < length rs = omega arith in
-      get_or-set_other (set rs (n - 1) (onto (nth rs (n - 1)) n)) n (n - 1) (record { address = address; size = size; next = 0 }) nothing ne ∙ get_or-set_same rs (n - 1) (onto (nth rs (n - 1)) n) nothing lt
+pub newest-first : (rs older : List BlockRecord) (r : BlockRecord) → rs ≡ older ++ r ∷ [] → chain rs ≡ place r ∷ chain older
+newest-first rs older r e = ap chain e ∙ chain-last older r
 
-  older : (i : ℕ) → i + 1 < n → nth (joined rs n address size) i ≡ nth rs i
-  older i h =
-      let ne : i ≢ n = omega arith in
-      let ne' : i ≢ n - 1 = omega arith in
-      get_or-set_other (set rs (n - 1) (onto (nth rs (n - 1)) n)) n i (record { address = address; size = size; next = 0 }) nothing ne ∙ get_or-set_other rs (n - 1) i (onto (nth rs (n - 1)) n) nothing ne'
+pub last-rise : (rs older : List BlockRecord) (r : BlockRecord) → rs ≡ older ++ r ∷ [] → rising (chain rs) ≡ true → Rise (place r) (chain older)
+last-rise rs older r e rises = rise (place r) (chain older) (sym (ap rising (newest-first rs older r e)) ∙ rises)
 
-  old : (i : ℕ) → i < n → place (nth (joined rs n address size) i) ≡ place (nth rs i)
-  old i h = elim (cases_lt (i + 1) n) [
-    | inl before ↦ ap place (older i before)
-    | inr at-end ↦ (let e : i ≡ n - 1 = omega arith in rw e (ap place (last (omega arith))))
-  ]
+chain-length : (rs : List BlockRecord) → length (chain rs) ≡ length rs
+chain-length rs = simp (length-map, length-reverse)
 
-  pub linked : Linked rs n → Linked (joined rs n address size) (n + 1)
-  linked l i h = elim (cases_lt i n) [
-    | inl k ↦
-        let b : ltb (i + 1) (n + 1) ≡ true = lt-ltb (i + 1) (n + 1) (omega arith) in
-        elim (cases_lt (i + 1) n) [
-          | inl m ↦
-              let a : ltb (i + 1) n ≡ true = lt-ltb (i + 1) n m in
-              rw b (rw a at (ap (λ (r : BlockRecord). r.next) (older i m) ∙ l i k))
-          | inr m ↦ (let e : i ≡ n - 1 = omega arith in rw b (rw e (ap (λ (r : BlockRecord). r.next) (last (omega arith)) ∙ (omega arith))))
-        ]
-    | inr k ↦
-        let e : i ≡ n = omega arith in
-        let b : ltb (n + 1) (n + 1) ≡ false = le-ltb (n + 1) (n + 1) (omega arith) in
-        rw (e, b) (ap (λ (r : BlockRecord). r.next) new)
-  ]
-
-  chained : (m : ℕ) → m ≤ n → chain (joined rs n address size) m ≡ chain rs m
-  chained zero h = refl
-  chained (suc m) h = let o = old m h in let k = chained m (omega arith) in cc
-
-  pub chains : chain (joined rs n address size) (n + 1) ≡ record { base = address; size = size } ∷ chain rs n
-  chains = let k = chained n (omega arith) in rw add-one (cc (ap place new, k))
-
--- the n-th block has 2^(n+3) bytes at least
-climb : (rs : List BlockRecord) (n : ℕ) → rising (chain rs n) ≡ true → 0 < n → 2 ^ (n + 3) ≤ newest_size (chain rs n)
-climb rs zero r h = absurd (omega arith)
-climb rs (suc zero) r h = (rise (place (nth rs 0)) [] r).some
-climb rs (suc (suc m)) r h =
-    let d = rise (place (nth rs (suc m))) (chain rs (suc m)) r in
-    let i = climb rs (suc m) d.older (omega arith) in
-    let e : suc (suc m) + 3 ≡ suc (suc m + 3) = omega arith in
+-- the newest of n blocks has 2^(n+3) bytes at least
+climb : (p : Place) (ps : List Place) → rising (p ∷ ps) ≡ true → 2 ^ (length ps + 4) ≤ p.size
+climb p [] r = (rise p [] r).some
+climb p (q ∷ qs) r =
+    let d = rise p (q ∷ qs) r in
+    let i = climb q qs d.older in
     let w = d.doubles in
-    rw e (omega (arith, two-pow-succ (suc m + 3)))
+    let e : suc (length qs) + 4 ≡ suc (length qs + 4) = omega arith in
+    rw e (omega (arith, two-pow-succ (length qs + 4)))
 
--- so there is a place left in a table of 23 for one that doubles the newest
-pub roomy : (rs : List BlockRecord) (n size : ℕ) → rising (chain rs n) ≡ true → 2 * newest_size (chain rs n) ≤ size → size ≤ 67108864 → n < 23
-roomy rs n size r doubles small = elim (cases_lt n 23) [
-  | inl h ↦ h
-  | inr h ↦ (let k : 26 ≤ n + 3 = omega arith in let a : 2 ^ 26 ≤ 2 ^ (n + 3) = pow_mono k in let b = climb rs n r (omega arith) in absurd (omega arith))
+-- so there is a place left among 23 for one that doubles the newest
+few : (ps : List Place) (size : ℕ) → rising ps ≡ true → 2 * newest_size ps ≤ size → size ≤ 67108864 → length ps < 23
+few [] size r doubles small = omega arith
+few (p ∷ ps) size r doubles small = elim (cases_lt (length ps) 22) [
+  | inl h ↦ omega arith
+  | inr h ↦ (let k : 26 ≤ length ps + 4 = omega arith in let a : 2 ^ 26 ≤ 2 ^ (length ps + 4) = pow_mono k in let b = climb p ps r in absurd (omega arith))
 ]
 
--- the newest block stands first
-pub headed : (rs : List BlockRecord) (n : ℕ) → 0 < n → chain rs n ≡ place (nth rs (n - 1)) ∷ chain rs (n - 1)
-headed rs zero h = absurd (omega arith)
-headed rs (suc m) h = let e : suc m - 1 ≡ m = omega arith in rw e refl
+pub roomy : (rs : List BlockRecord) (size : ℕ) → rising (chain rs) ≡ true → 2 * newest_size (chain rs) ≤ size → size ≤ 67108864 → length rs < 23
+roomy rs size r doubles small = let e = chain-length rs in let f = few (chain rs) size r doubles small in omega arith
 
-pub rise-at : (rs : List BlockRecord) (n : ℕ) → rising (chain rs n) ≡ true → (i : ℕ) → i < n → Rise (place (nth rs i)) (chain rs i)
-rise-at rs zero r i h = absurd (omega arith)
-rise-at rs (suc n) r i h =
-    let d = rise (place (nth rs n)) (chain rs n) r in
-    elim (cases_lt i n) [
-      | inl k ↦ rise-at rs n d.older i k
-      | inr k ↦ (let e : n ≡ i = omega arith in let P : ℕ → Type 0 = λ m. Rise (place (nth rs m)) (chain rs m) in subst P e d)
-    ]
+-- the last record is linked to the place n, and all else is as it was
+pub data Relinked (n : ℕ) (old new : List BlockRecord) : Type 0 where
+  none : length old ≡ 0 → new ≡ old → Relinked n old new
+  some : (front : List BlockRecord) (last : BlockRecord) → old ≡ front ++ last ∷ [] → new ≡ front ++ record { address = last.address; size = last.size; next = n } ∷ [] → Relinked n old new
 
--- the newest block alone
-module _ (rs : List BlockRecord) (n : ℕ) (whole : length rs ≡ 23) (some : 0 < n) where
-  abbrev only : BlockRecord
-  only = record { address = (nth rs (n - 1)).address; size = (nth rs (n - 1)).size; next = 0 }
+pub relinked-length : (n : ℕ) (old new : List BlockRecord) → Relinked n old new → length new ≡ length old
+relinked-length n old new (none e f) = ap length f
+relinked-length n old new (some front last e f) = simp (e, f, length-append)
 
-  at-first : nth (set rs 0 (record { address = (nth rs (n - 1)).address; size = (nth rs (n - 1)).size; next = 0 })) 0 ≡ only
-  at-first = get_or-set_same rs 0 only nothing (omega arith)
+pub relinked-chain : (n : ℕ) (old new : List BlockRecord) → Relinked n old new → chain new ≡ chain old
+relinked-chain n old new (none e f) = ap chain f
+relinked-chain n old new (some front last e f) = simp (e, f, reverse-append)
 
-  pub alone-linked : Linked (set rs 0 (record { address = (nth rs (n - 1)).address; size = (nth rs (n - 1)).size; next = 0 })) 1
-  alone-linked i h = let e : i ≡ 0 = omega arith in rw e (ap (λ (r : BlockRecord). r.next) at-first)
+-- and the record that follows is linked to the first
+pub linked-on : (n : ℕ) (old new : List BlockRecord) (r : BlockRecord) → Relinked n old new → n ≡ length old → r.next ≡ 0 → Linked old → Linked (new ++ r ∷ [])
+linked-on n old new r (none e f) many first l = rw f (λ i d h. grind (arith, places, common_steps))
+linked-on n old new r (some front last e f) many first l =
+    rw (f, append_assoc)
+    (λ i d h. let l' : (i : ℕ) (d : BlockRecord) → i < length (front ++ last ∷ []) → (get_or (front ++ last ∷ []) i d).next ≡ after i (length (front ++ last ∷ [])) = rw e at l in grind (arith, places, common_steps, l' i d, cases_eq i (length front)))
 
-  pub alone-chain : chain (set rs 0 (record { address = (nth rs (n - 1)).address; size = (nth rs (n - 1)).size; next = 0 })) 1 ≡ newest (chain rs n)
-  alone-chain = rw (headed rs n some) (ap (λ (r : BlockRecord). place r ∷ []) at-first)
+-- the sum of the sizes, in whatever order
+sizes : (rs : List BlockRecord) → total (map place rs) ≡ sum_by (λ (r : BlockRecord). r.size) rs
+sizes [] = refl
+sizes (r ∷ rs) = ap (λ (n : ℕ). r.size + n) (sizes rs) ∙ sym (sum_by-cons _ r rs)
 
-  pub alone-rises : rising (chain rs n) ≡ true → rising (chain (set rs 0 (record { address = (nth rs (n - 1)).address; size = (nth rs (n - 1)).size; next = 0 })) 1) ≡ true
-  alone-rises r =
-      let d = rise-at rs n r (n - 1) (omega arith) in
-      ap rising alone-chain ∙ rw (headed rs n some) (risen (place (nth rs (n - 1))) [] d.some d.small d.low (omega arith) refl)
+pub total-sum : (rs : List BlockRecord) → total (chain rs) ≡ sum_by (λ (r : BlockRecord). r.size) rs
+total-sum rs = sizes (reverse rs) ∙ sum_by-IsPermutation _ rs (reverse rs) (IsPermutation-reverse rs)
 
-pub few-chain : (rs : List BlockRecord) (n : ℕ) → n ≤ 1 → chain rs n ≡ newest (chain rs n)
-few-chain rs zero h = refl
-few-chain rs (suc n) h = let e : n ≡ 0 = omega arith in rw e refl
+-- the limits of a record
+pub record Within (r : BlockRecord) : Type 0 where
+  pub some : 16 ≤ r.size
+  pub small : r.size ≤ 67108864
+  pub low : r.address < 2 ^ 48
 
--- the sum stays small
-pub total-small : (rs : List BlockRecord) (n : ℕ) → rising (chain rs n) ≡ true → total (chain rs n) ≤ 67108864 * n
-total-small rs zero r = omega arith
-total-small rs (suc n) r = let d = rise (place (nth rs n)) (chain rs n) r in let i = total-small rs n d.older in let s = d.small in omega arith
+within : (rs : List BlockRecord) → rising (map place rs) ≡ true → All Within rs
+within [] r = All-nil Within
+within (b ∷ bs) r = let d = rise (place b) (map place bs) r in All-cons Within b bs (record { some = d.some; small = d.small; low = d.low }) (within bs d.older)
 
-pub rising-to : (rs : List BlockRecord) (n m : ℕ) → rising (chain rs n) ≡ true → m ≤ n → rising (chain rs m) ≡ true
-rising-to rs zero m r h = let e : m ≡ 0 = omega arith in rw e refl
-rising-to rs (suc n) m r h = elim (cases_lt m (suc n)) [
-  | inl k ↦ rising-to rs n m (rise (place (nth rs n)) (chain rs n) r).older (omega arith)
-  | inr k ↦ (let e : suc n ≡ m = omega arith in subst (λ (x : ℕ). rising (chain rs x) ≡ true) e r)
-]
+pub limits : (rs : List BlockRecord) → rising (chain rs) ≡ true → All Within rs
+limits rs r = subst (λ (xs : List BlockRecord). All Within xs) (reverse-reverse rs) (All-permutation Within (reverse rs) (reverse (reverse rs)) (IsPermutation-reverse (reverse rs)) (within (reverse rs) r))
+
+pub sum-small : (rs : List BlockRecord) → rising (chain rs) ≡ true → length rs ≤ 23 → sum_by (λ (r : BlockRecord). r.size) rs ≤ 23 * 67108864
+sum-small rs r many = let l = limits rs r in let s = sum_by-le (λ (r : BlockRecord). r.size) 67108864 rs (λ k d h. (l k d h).small) in omega arith
+
+-- is the address a usable byte of one of the blocks, in whatever order
+any-taken : (bs : List Outstanding) (at : ℕ) (rs : List BlockRecord) → taken (olders bs (map place rs)) at ≡ list_any (λ (r : BlockRecord). spans (r.address + 16) (r.size - 16) at) rs
+any-taken bs at [] = refl
+any-taken bs at (r ∷ rs) = ap (λ b. spans (r.address + 16) (r.size - 16) at || b) (any-taken bs at rs)
+
+pub taken-any : (bs : List Outstanding) (at : ℕ) (rs : List BlockRecord) → taken (olders bs (chain rs)) at ≡ list_any (λ (r : BlockRecord). spans (r.address + 16) (r.size - 16) at) rs
+taken-any bs at rs = any-taken bs at (reverse rs) ∙ sym (list_any-IsPermutation _ rs (reverse rs) (IsPermutation-reverse rs))

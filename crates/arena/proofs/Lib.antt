@@ -1,4 +1,4 @@
-pub mod Table
 mod Joins
+pub mod Table
 pub mod Sources
 pub mod Steps

@@ -13,7 +13,7 @@ pub record Arena : Type 0 where
   pub growths : ℕ
 
 abbrev pub blocks_of : Ring → List Place
-blocks_of r = chain r.records r.len
+blocks_of r = chain r.records.items
 
 abbrev pub arena_of : Source → Ring → ℕ → Arena
 arena_of s r growths = record { source = s; blocks = blocks_of r; growths = growths }

@@ -1,35 +1,21 @@
--- The blocks of an arena: their table, the oldest first, and the list that it stands for, the newest first.
-use Rattle.std.specs.Prelude.{◌≡◌, ℕ, zero, suc, ◌+◌, ◌-◌, ◌*◌, ◌^◌, ◌<◌, ◌≤◌, Bool, true, false, cond, ◌&&◌, List, [], ◌∷◌, ◌==◌, nat_le, nat_lt, slice_index_or, slice_set}
+-- The blocks of an arena: their records, the oldest first, and the places that they stand for, the newest first.
+use Rattle.std.specs.Prelude.{◌≡◌, ℕ, ◌+◌, ◌-◌, ◌*◌, ◌^◌, ◌<◌, ◌≤◌, Bool, true, false, cond, ◌&&◌, List, [], ◌∷◌, length, map, reverse, ◌==◌, nat_le, nat_lt, slice_index_or}
 use Rattle.source.specs.Blocks.{Place}
 use Rattle.arena.specs.declared.record.BlockRecord.{BlockRecord}
-
-abbrev pub nothing : BlockRecord
-nothing = record { address = 0; size = 0; next = 0 }
-
-abbrev pub nth : List BlockRecord → ℕ → BlockRecord
-nth rs i = slice_index_or rs i nothing
 
 abbrev pub place : BlockRecord → Place
 place r = record { base = r.address; size = r.size }
 
-abbrev pub chain : List BlockRecord → ℕ → List Place
-chain rs zero = []
-chain rs (suc n) = place (nth rs n) ∷ chain rs n
+-- the blocks, the newest first
+abbrev pub chain : List BlockRecord → List Place
+chain rs = map place (reverse rs)
 
 -- where the record after the one at i stands: the last is linked to the first
 abbrev pub after : ℕ → ℕ → ℕ
 after i len = cond (nat_lt (i + 1) len) (i + 1) 0
 
-abbrev pub Linked : List BlockRecord → ℕ → Type 0
-Linked rs len = (i : ℕ) → i < len → (nth rs i).next ≡ after i len
-
--- the record, linked to another place
-abbrev pub onto : BlockRecord → ℕ → BlockRecord
-onto r next = record { address = r.address; size = r.size; next = next }
-
--- the table with one more block at the place n: the one before it is linked to it, and it to the first
-abbrev pub joined : List BlockRecord → ℕ → ℕ → ℕ → List BlockRecord
-joined rs n address size = slice_set (slice_set rs (n - 1) (onto (nth rs (n - 1)) n)) n (record { address = address; size = size; next = 0 })
+abbrev pub Linked : List BlockRecord → Type 0
+Linked rs = (i : ℕ) (d : BlockRecord) → i < length rs → (slice_index_or rs i d).next ≡ after i (length rs)
 
 -- is there a block
 abbrev pub opened : List Place → Bool
@@ -70,9 +56,8 @@ counted growths [] = growths == 0
 counted growths (p ∷ ps) = nat_le (2 ^ (growths + 4)) p.size
 
 -- the record is the newest block's, within the limits of each
-pub record Newest (rs : List BlockRecord) (n : ℕ) (b : BlockRecord) : Type 0 where
-  pub opened : 0 < n
-  pub first : chain rs n ≡ place b ∷ chain rs (n - 1)
+pub record Newest (rs : List BlockRecord) (b : BlockRecord) : Type 0 where
+  pub first : chain rs ≡ place b ∷ before (chain rs)
   pub some : 16 ≤ b.size
   pub small : b.size ≤ 67108864
   pub low : b.address < 2 ^ 48

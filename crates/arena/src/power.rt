@@ -13,10 +13,5 @@ pub(crate) fn least_power(n: usize) -> Option<usize>
     requires { 16 ≤ n }
     ensures { MatchOption result (67108864 < n) (LeastPower n) }
 {
-    for i in 0..23 {
-        if n <= POWERS[i] {
-            return Some(POWERS[i]);
-        }
-    }
-    None
+    POWERS.iter().copied().find(|power| n <= *power)
 }

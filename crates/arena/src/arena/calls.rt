@@ -13,21 +13,18 @@ ghost use Rattle.arena.specs.Views.{idle_of, handle_of, memory_at};
 use super::{Arena, ArenaHandle};
 use crate::fault::ArenaFault;
 use crate::power::least_power;
+use crate::record::BlockRecord;
 use crate::ring::Ring;
 use allocator::{Allocator, Cause, Fault, Layout};
 use source::{BlockSource, SourceFault};
 
-// Gives the n oldest blocks of the ring back, the newest of them first.
-fn give_back<S: BlockSource>(source: &mut S, ring: &Ring, n: usize)
-    requires { n ≤ ring.now.len }
-    ensures own { Gave S.gives source.old (chain ring.now.records n) source.new }
-    ensures state { S.state source.new ≡ given_back (S.state source.old) (chain ring.now.records n) }
+// Gives the blocks back, the newest of them first.
+fn give_back<S: BlockSource>(source: &mut S, records: &[BlockRecord])
+    ensures own { Gave S.gives source.old (chain records.now) source.new }
+    ensures state { S.state source.new ≡ given_back (S.state source.old) (chain records.now) }
 {
-    let mut k = n;
-    while k > 0 {
-        k -= 1;
-        let b = ring.at(k);
-        let _ = source.give(b.address);
+    for record in records.iter().rev() {
+        let _ = source.give(record.address);
     }
 }
 
@@ -94,13 +91,12 @@ impl<S: BlockSource> Arena<S> {
         ensures state { idle_of S.state self.new ≡ shrunk (idle_of S.state self.old) }
         ensures gave { Gave S.gives self.old.source (before (blocks_of self.old.ring)) self.new.source }
     {
-        let Some(b) = self.ring.tail() else {
+        let Some((&tail, older)) = self.ring.records().split_last() else {
             return 0;
         };
-        let n = self.ring.len();
-        give_back(&mut self.source, &self.ring, n - 1);
+        give_back(&mut self.source, older);
         self.ring.keep_newest();
-        b.size - 16
+        tail.room()
     }
 
     // The usable length of the newest block.
@@ -108,7 +104,7 @@ impl<S: BlockSource> Arena<S> {
         ensures { result ≡ room (blocks_of self.now.ring) }
     {
         match self.ring.tail() {
-            Some(b) => b.size - 16,
+            Some(tail) => tail.room(),
             None => 0,
         }
     }
@@ -149,8 +145,7 @@ impl<S: BlockSource> Arena<S> {
             growths: _,
         } = self;
         let mut source = source;
-        let n = ring.len();
-        give_back(&mut source, &ring, n);
+        give_back(&mut source, ring.records());
         source
     }
 }

@@ -1,32 +1,37 @@
-use Rattle.std.proofs.Common.{◌≡◌, ℕ, ◌-◌, List, sym, ap, ◌∙◌, subst, arith}
+use Rattle.std.proofs.Common.{◌≡◌, List, [], ◌∷◌, sym, ap, ◌∙◌, subst, rules}
+use Rattle.std.proofs.lemmas.List.{nil_from_length}
+use Rattle.std.specs.Iterator.Adapters.{rev_source}
+use Rattle.std.specs.Slice.Iter.{iter_rest}
 use Rattle.source.specs.Blocks.{Source, Place}
 use Rattle.arena.specs.declared.record.BlockRecord.{BlockRecord}
-use Rattle.arena.specs.Rings.{chain}
+use Rattle.arena.specs.Rings.{chain, place}
 use Rattle.arena.specs.Arenas.{given_back, Gave, done, next}
-use Rattle.arena.proofs.Joins.{headed}
+use Rattle.arena.proofs.Joins.{newest-first}
 use Rattle.arena.proofs.arena.calls.give_back.Goals as goal
 
-pub loop-k-preserved : goal.loop-k-preserved
-loop-k-preserved g c =
-    let inv = c.loop-k.invariant in
-    let b = c.at-b.ensures in
-    let first = headed c.args.ring.now.records c.loop-k.k (omega arith) in (
-      omega arith,
-      (λ t rest.
-          let given = subst (λ (r : BlockRecord). g.S.BlockSource.gives c.loop-k.source r.address c.give.result c.give.new.self) b c.give.ensures.own in
-          inv.1 t (subst (λ (ps : List Place). Gave g.S.BlockSource.gives c.loop-k.source ps t) (sym first) (next given rest))),
-      (
-          let e = c.give.ensures.rule.after in
-          ap (λ (x : Source). given_back x (chain c.args.ring.now.records (c.loop-k.k - 1))) (rw b at e) ∙ rw first at inv.2),
-    )
+pub loop-record-init : goal.loop-record-init
+loop-record-init g c =
+    let e : iter_rest (rev_source c.into_iter-record-iterator.result) ≡ c.args.records.now = search rules in
+    record {
+      own = λ t given. subst (λ (rs : List BlockRecord). Gave g.S.BlockSource.gives c.args.source.now (chain rs) t) e given;
+      state = ap (λ (rs : List BlockRecord). given_back (g.S.BlockSource.state c.args.source.now) (chain rs)) e;
+    }
+
+pub loop-record-preserved : goal.loop-record-preserved
+loop-record-preserved g c =
+    let inv = c.loop-record.invariant in
+    let first : chain (iter_rest (rev_source c.loop-record.record-iterator)) ≡ place c.in-Some.record.now ∷ chain (iter_rest (rev_source c.next.new.self)) =
+    newest-first (iter_rest (rev_source c.loop-record.record-iterator)) (iter_rest (rev_source c.next.new.self)) c.in-Some.record.now (search rules) in
+    record {
+      own = λ t rest. inv.own t (subst (λ (ps : List Place). Gave g.S.BlockSource.gives c.loop-record.source ps t) (sym first) (next c.give.ensures.own rest));
+      state = ap (λ (x : Source). given_back x (chain (iter_rest (rev_source c.next.new.self)))) c.give.ensures.rule.after ∙ rw first at inv.state;
+    }
 
 pub returns : goal.returns
 returns g c =
-    let inv = c.loop-k.invariant in
-    let none : c.loop-k.k ≡ 0 = omega arith in
+    let inv = c.loop-record.invariant in
+    let none : chain (iter_rest (rev_source c.loop-record.record-iterator)) ≡ [] = ap chain (nil_from_length (iter_rest (rev_source c.loop-record.record-iterator)) (search rules)) in
     record {
-      own = inv.1 c.loop-k.source (subst (λ (n : ℕ). Gave g.S.BlockSource.gives c.loop-k.source (chain c.args.ring.now.records n) c.loop-k.source) (sym none) done);
-      state =
-          subst (λ (n : ℕ). given_back (g.S.BlockSource.state c.loop-k.source) (chain c.args.ring.now.records n) ≡ given_back (g.S.BlockSource.state c.args.source.now) (chain c.args.ring.now.records c.args.n))
-          none inv.2;
+      own = inv.own c.loop-record.source (subst (λ (ps : List Place). Gave g.S.BlockSource.gives c.loop-record.source ps c.loop-record.source) (sym none) done);
+      state = rw none at inv.state;
     }

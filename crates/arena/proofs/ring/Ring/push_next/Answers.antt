@@ -1,32 +1,23 @@
 -- A ring with one more block is a ring, and has that block first.
-use Rattle.std.proofs.Common.{◌≡◌, ◌<◌, length, ap, ◌∙◌, arith, rules}
-use Rattle.arena.specs.Rings.{rising, chain}
-use Rattle.arena.proofs.Joins.{roomy, linked, chains, risen}
+use Rattle.std.proofs.Common.{refl, rules}
+use Rattle.arena.specs.Rings.{chain}
+use Rattle.arena.proofs.Joins.{Relinked, none, some, relinked-chain, linked-on, risen, chain-last}
 use Rattle.arena.proofs.ring.Ring.push_next.Goals as goal
-
-pub bounds-self-n : goal.bounds-self-n
-bounds-self-n c =
-    let r = c.args.self.now in
-    roomy r.records r.len c.args.size r.rises c.requires.doubles c.requires.small
+use Rattle.arena.proofs.ring.Ring.push_next.Goals.{in-Some, in_default}
 
 pub invariant_of-self : goal.invariant_of-self
 invariant_of-self c =
     let r = c.args.self.now in
-    let whole : length c.args.self.now.records ≡ 23 = search rules in
-    let room : c.args.self.now.len < 23 = roomy r.records r.len c.args.size r.rises c.requires.doubles c.requires.small in
-    let inside : c.args.self.now.len < length c.args.self.now.records = omega arith in
-    let new = risen (record { base = c.args.address; size = c.args.size }) (chain r.records r.len) c.requires.some c.requires.small c.requires.low c.requires.doubles r.rises in
-    rw c.saturating_sub-last.ensures
+    let k : Relinked c.len-n.result c.args.self.now.records.items c.match-pop.self.1.0.items = elim c.match-pop.branch [ in-Some w ↦ some _ _ w.in-Some.ensures.items (search rules) | in_default w ↦ none (search rules) (search rules) ] in
+    let e = relinked-chain _ _ _ k in
+    rw c.push-2.ensures.items
     (record {
-      few = omega arith;
-      linked = linked r.records r.len c.args.address c.args.size inside r.linked;
-      rises = ap rising (chains r.records r.len c.args.address c.args.size inside) ∙ new;
+      linked = linked-on _ _ _ _ k (search rules) refl r.linked;
+      rises = rw (chain-last, e) (risen (record { base = c.args.address; size = c.args.size }) (chain r.records.items) c.requires.some c.requires.small c.requires.low c.requires.doubles r.rises);
     })
 
 pub returns : goal.returns
 returns c =
-    let r = c.args.self.now in
-    let whole : length c.args.self.now.records ≡ 23 = search rules in
-    let room : c.args.self.now.len < 23 = roomy r.records r.len c.args.size r.rises c.requires.doubles c.requires.small in
-    let inside : c.args.self.now.len < length c.args.self.now.records = omega arith in
-    rw c.saturating_sub-last.ensures (chains r.records r.len c.args.address c.args.size inside)
+    let k : Relinked c.len-n.result c.args.self.now.records.items c.match-pop.self.1.0.items = elim c.match-pop.branch [ in-Some w ↦ some _ _ w.in-Some.ensures.items (search rules) | in_default w ↦ none (search rules) (search rules) ] in
+    let e = relinked-chain _ _ _ k in
+    rw (c.push-2.ensures.items, chain-last, e) refl

@@ -1,15 +1,17 @@
-use Rattle.std.proofs.Common.{add-one, arith, rules}
-use Rattle.arena.proofs.Joins.{rise-at, rising-to, total-small}
+use Rattle.std.proofs.Common.{◌≡◌, sym, ◌∙◌, rules}
+use Rattle.std.specs.List.{sum_by}
+use Rattle.arena.specs.declared.record.BlockRecord.{BlockRecord}
+use Rattle.arena.proofs.Joins.{total-sum, sum-small}
 use Rattle.arena.proofs.ring.Ring.total.Goals as goal
 
-pub overflow_add-sum : goal.overflow_add-sum
-overflow_add-sum c =
+pub sum-requires-clause-fits : goal.sum-requires-clause-fits
+sum-requires-clause-fits c =
     let r = c.args.self.now in
-    let small = (rise-at r.records r.len r.rises c.loop-i.i (omega arith)).small in
-    let sum = total-small r.records c.loop-i.i (rising-to r.records r.len c.loop-i.i r.rises (omega arith)) in
-    let inv = c.loop-i.invariant in
-    let few = r.few in
+    let small = sum-small r.records.items r.rises (search rules) in
     search rules
 
-pub loop-i-preserved : goal.loop-i-preserved
-loop-i-preserved c = let inv = c.loop-i.invariant in rw add-one (omega arith)
+pub returns : goal.returns
+returns c =
+    let r = c.args.self.now in
+    let e : c.sum.result ≡ sum_by (λ (b : BlockRecord). b.size) c.args.self.now.records.items = search rules in
+    e ∙ sym (total-sum r.records.items)

@@ -12,7 +12,7 @@ pub returns-in_err-tail-clause-rule : goal.returns-in_err-tail-clause-rule
 returns-in_err-tail-clause-rule g c =
     let p = err_from_is_err_and c.from_residual.result c.from_residual.ensures.1 in
     let h = c.args.self.now in
-    let none = err-none (blocks_of c.args.self.now.arena.ring ≡ []) (λ (b : BlockRecord). Newest c.args.self.now.arena.ring.records c.args.self.now.arena.ring.len b) c.tail.result _ _ c.in_err-tail.ensures.value c.tail.ensures in
+    let none = err-none (blocks_of c.args.self.now.arena.ring ≡ []) (λ (b : BlockRecord). Newest c.args.self.now.arena.ring.records.items b) c.tail.result _ _ c.in_err-tail.ensures.value c.tail.ensures in
     rw (p.1, p.2, none.1) (unserved (g.S.BlockSource.state h.arena.source).blocks (blocks_of h.arena.ring) h.used c.args.layout.size c.args.layout.align none.0)
 
 pub returns-then-wanted-tail-clause-serves : goal.returns-then-wanted-tail-clause-serves
@@ -21,7 +21,7 @@ returns-then-wanted-tail-clause-serves g c =
     let s = g.S.BlockSource.state h.arena.source in
     let lawful = g.S.BlockSource.lawful h.arena.source in
     let ps = blocks_of h.arena.ring in
-    let first = (ok-some (blocks_of c.args.self.now.arena.ring ≡ []) (λ (b : BlockRecord). Newest c.args.self.now.arena.ring.records c.args.self.now.arena.ring.len b) c.tail.result _ _ c.in_ok-tail.ensures.value c.tail.ensures).first in
+    let first = (ok-some (blocks_of c.args.self.now.arena.ring ≡ []) (λ (b : BlockRecord). Newest c.args.self.now.arena.ring.records.items b) c.tail.result _ _ c.in_ok-tail.ensures.value c.tail.ensures).first in
     let l = c.args.layout in
     let under : c.align_offset-pad.result + c.size.result ≤ c.in_ok-tail.tail.size - 16 - c.args.self.now.used = omega arith in
     push-served (memory-lawful s.blocks lawful ps h.used h.arena.kept h.arena.ring.rises h.marked)
@@ -35,7 +35,7 @@ returns-clause-rule g c =
     let s = g.S.BlockSource.state h.arena.source in
     let lawful = g.S.BlockSource.lawful h.arena.source in
     let ps = blocks_of h.arena.ring in
-    let first = (ok-some (blocks_of c.args.self.now.arena.ring ≡ []) (λ (b : BlockRecord). Newest c.args.self.now.arena.ring.records c.args.self.now.arena.ring.len b) c.tail.result _ _ c.in_ok-tail.ensures.value c.tail.ensures).first in
+    let first = (ok-some (blocks_of c.args.self.now.arena.ring ≡ []) (λ (b : BlockRecord). Newest c.args.self.now.arena.ring.records.items b) c.tail.result _ _ c.in_ok-tail.ensures.value c.tail.ensures).first in
     let l = c.args.layout in
     let over : c.in_ok-tail.tail.size - 16 - c.args.self.now.used < c.align_offset-pad.result + c.size.result = omega arith in
     let off = unfit s.blocks ps (place c.in_ok-tail.tail) _ h.used l.size l.align _ _ first h.arena.kept c.align_offset-pad.ensures.value c.size.ensures.value over in
@@ -47,7 +47,7 @@ returns-clause-serves g c =
     let s = g.S.BlockSource.state h.arena.source in
     let lawful = g.S.BlockSource.lawful h.arena.source in
     let ps = blocks_of h.arena.ring in
-    let first = (ok-some (blocks_of c.args.self.now.arena.ring ≡ []) (λ (b : BlockRecord). Newest c.args.self.now.arena.ring.records c.args.self.now.arena.ring.len b) c.tail.result _ _ c.in_ok-tail.ensures.value c.tail.ensures).first in
+    let first = (ok-some (blocks_of c.args.self.now.arena.ring ≡ []) (λ (b : BlockRecord). Newest c.args.self.now.arena.ring.records.items b) c.tail.result _ _ c.in_ok-tail.ensures.value c.tail.ensures).first in
     let l = c.args.layout in
     let h' = c.grow.new.self in
     let over : c.in_ok-tail.tail.size - 16 - c.args.self.now.used < c.align_offset-pad.result + c.size.result = omega arith in
