@@ -1,5 +1,5 @@
 -- The blocks of a ring: with one more, and their limits.
-use Rattle.std.proofs.Common.{◌≡◌, ℕ, suc, ◌+◌, ◌-◌, ◌||◌, ◌*◌, ◌^◌, ◌<◌, ◌≤◌, true, List, [], ◌∷◌, ◌++◌, length, map, reverse, get_or, refl, sym, subst, append_assoc, length-append, ap, ◌∙◌, inl, inr, arith, pow_mono}
+use Rattle.std.proofs.Common.{◌≡◌, ℕ, suc, ◌+◌, ◌-◌, ◌||◌, ◌*◌, ◌^◌, ◌<◌, ◌≤◌, true, List, [], ◌∷◌, ◌++◌, length, map, reverse, get_or, refl, sym, subst, append_assoc, ap, ◌∙◌, inl, inr, arith, pow_mono}
 use native.Mathlib.Nat.{two-pow-succ}
 use Rattle.std.proofs.lemmas.Bool.{cases_lt, cases_eq, lt-ltb, le-leb, and_from}
 use Rattle.std.proofs.lemmas.List.{reverse-append, reverse-reverse, length-map, length-reverse, places}
@@ -57,10 +57,6 @@ roomy rs size r doubles small = let e = chain-length rs in let f = few (chain rs
 pub data Relinked (n : ℕ) (old new : List BlockRecord) : Type 0 where
   none : length old ≡ 0 → new ≡ old → Relinked n old new
   some : (front : List BlockRecord) (last : BlockRecord) → old ≡ front ++ last ∷ [] → new ≡ front ++ record { address = last.address; size = last.size; next = n } ∷ [] → Relinked n old new
-
-pub relinked-length : (n : ℕ) (old new : List BlockRecord) → Relinked n old new → length new ≡ length old
-relinked-length n old new (none e f) = ap length f
-relinked-length n old new (some front last e f) = simp (e, f, length-append)
 
 pub relinked-chain : (n : ℕ) (old new : List BlockRecord) → Relinked n old new → chain new ≡ chain old
 relinked-chain n old new (none e f) = ap chain f

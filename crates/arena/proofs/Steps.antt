@@ -3,9 +3,9 @@ use Rattle.std.proofs.Common.{add-zero, ◌≡◌, ℕ, suc, ◌+◌, ◌-◌, �
 use native.Mathlib.Nat.{two-pow-succ}
 use mir.Val.{bool_byte}
 use Rattle.std.specs.Option.{MatchOption, ok_or}
-use Rattle.std.proofs.lemmas.Bool.{cases_Bool, cases_lt, and_from, or_parts, le-leb, lt-ltb, lt-leb, leb-true, eqb-true, cond-true, cond-false, both_ways}
+use Rattle.std.proofs.lemmas.Bool.{cases_Bool, cases_lt, and_from, le-leb, lt-ltb, lt-leb, leb-true, eqb-true, cond-true, cond-false, both_ways}
 use Rattle.allocator.specs.Layouts.{pad}
-use Rattle.allocator.specs.Memory.{Block, Memory, taken_in, taken, popped, fits, full}
+use Rattle.allocator.specs.Memory.{Block, Memory, taken, fits, full}
 use Rattle.allocator.specs.Answers.{asked, Push, fitted, further, refused, Pop}
 use Rattle.allocator.proofs.Spans.{spans-from}
 use Rattle.allocator.specs.declared.fault.Cause.TheVariants as cause
@@ -19,29 +19,13 @@ use Rattle.arena.specs.Meaning.{usable, olders, memory_of, Kept}
 use Rattle.arena.specs.Powers.{LeastPower, least_power_of, wanted}
 use Rattle.arena.specs.Arenas.{Arena, Consulted, Taken, Takes, dry}
 use Rattle.arena.specs.Arenas as arenas
-use Rattle.arena.specs.Calls.{Begins, Marked, Extends, Opens, opening, pushing, answered}
+use Rattle.arena.specs.Calls.{Begins, Marked, Extends, Opens, opening, answered}
 use Rattle.arena.specs.Faults as faults
 use Rattle.arena.specs.declared.fault.ArenaFault.{ArenaFault}
 use Rattle.source.specs.Faults as sources
 use Rattle.arena.specs.Keeps.{rise, contents-same, usable-length}
 use Rattle.arena.proofs.Table.{least-is, least-small}
 use Rattle.arena.proofs.Sources.{granted-differs, granted-kept, granted-olders, full-olders}
-
-unopened-size : (ps : List Place) → opened ps ≡ false → newest_size ps ≡ 0
-unopened-size [] e = refl
-unopened-size (p ∷ ps) e = absurd (both_ways true e refl)
-
-pub room-small : (ps : List Place) → rising ps ≡ true → room ps ≤ 67108864
-room-small [] r = omega arith
-room-small (p ∷ ps) r = let s = (rise p ps r).small in omega arith
-
-pub newest-small : (ps : List Place) → rising ps ≡ true → newest_size ps ≤ 67108864
-newest-small [] r = omega arith
-newest-small (p ∷ ps) r = (rise p ps r).small
-
-pub unpopped : (m : Memory) (at : ℕ) → taken m at ≡ false → popped m at ≡ m
-unpopped [] at off = refl
-unpopped (b ∷ older) at off = let e = (or_parts (taken_in b at) (taken older at) off).0 in rw e refl
 
 -- what the source answered to a request of a size that a block may have
 module _ (s s' : Source) (size : ℕ) (some : 0 < size) (small : size ≤ 67108864) where
@@ -74,10 +58,6 @@ module _ (s s' : Source) (size : ℕ) (some : 0 < size) (small : size ≤ 671088
           ◌≡◌ {A = Arena} (record { source = s'; blocks = record { base = at; size = size } ∷ ps; growths = n + bool_byte (opened ps) }) (arenas.extended (record { source = s; blocks = ps; growths = n }) (record { base = at; bytes = bytes }))
       extends [] n bytes many e = rw (e, many, add-zero n) refl
       extends (p ∷ ps) n bytes many e = rw (e, many) refl
-
-  -- or the source refused it
-  pub dries : (ps : List Place) (growths : ℕ) (fault : SourceFault) → Take s size (Err fault) s' → Takes (record { source = s; blocks = ps; growths = growths }) size (Err fault) (record { source = s'; blocks = ps; growths = growths })
-  dries ps growths fault t = let g = t.asks sized-true in (g.0, rw g.1 refl)
 
 -- the source loads and stores each byte that is within its blocks
 pub never-loads : (s : Source) (at : ℕ) (fault : SourceFault) → within s.blocks at ≡ true → Load s at (Err fault) → ⊥
@@ -176,26 +156,6 @@ popped-newest bs ps p qs used at first on low high =
 pub wanted-is : (n last least size align s a : ℕ) → n ≡ max (2 * last) least → LeastPower (16 + s + a) least → s ≡ size → a ≡ align → n ≡ wanted last size align
 wanted-is n last least size align s a m l e f = rw (sym e, sym f) (m ∙ ap (λ (x : ℕ). max (2 * last) x) (least-is (16 + s + a) least l))
 
--- whether a push asks its source
-pub asks-not : (ps : List Place) (b : Bool) (size align : ℕ) → b ≡ true → pushing ps b size align ≡ false
-asks-not [] b size align e = refl
-asks-not (p ∷ ps) b size align e = rw e refl
-
-pub asks-none : (ps : List Place) (b : Bool) (size align : ℕ) → ps ≡ [] → pushing ps b size align ≡ false
-asks-none ps b size align none = rw none refl
-
--- what the source was asked by a push beyond the newest block
-pub consulted-push : {S : Type 0} {chooses : S → ℕ → Result ℕ SourceFault → S → Type 0} (ps : List Place) (p : Place) (qs : List Place) (b : Bool) (size align : ℕ) {s s' : S} {answer : Result ℕ SourceFault} → ps ≡ p ∷ qs → b ≡ false →
-    Consulted chooses (leb (wanted p.size size align) 67108864) s (wanted p.size size align) answer s' → Consulted chooses (pushing ps b size align) s (wanted (newest_size ps) size align) answer s'
-consulted-push ps p qs b size align first off q = rw (first, off) q
-
-pub cons-opened : (ps qs : List Place) (p : Place) → ps ≡ p ∷ qs → opened ps ≡ true
-cons-opened ps qs p e = ap opened e
-
--- the numbers of an arena are small
-pub doubles-fit : (last : ℕ) (ps : List Place) → newest_size ps ≡ last → rising ps ≡ true → Fits w64 (2 * last)
-doubles-fit last ps e r = let small = newest-small ps r in search rules
-
 -- what `ok_or` passed on, and what it refused
 pub ok-some : {X E : Type 0} (N : Type 0) (P : X → Type 0) (o : Option X) (x : X) (e : E) → Ok x ≡ ok_or o e → MatchOption o N P → P x
 ok-some N P None x e is m = let z : ◌≡◌ {A = ℕ} 0 1 = cc in absurd (omega arith)
@@ -243,14 +203,9 @@ answered-ok E x a a' want at t = rw (taken-blocks a a' want at t) refl
 
 -- an opening that asked the source
 module _ (a a' : Arena) (cap size : ℕ) (empty : opened a.blocks ≡ false) (small : cap ≤ 16777216) (l : LeastPower (cap + 16) size) where
-  pub opening-some : 16 ≤ size
-  opening-some = omega (arith, l.above)
 
   pub opening-high : size ≤ 67108864
   opening-high = least-small (cap + 16) size l (omega arith)
-
-  pub opening-doubles : 2 * newest_size a.blocks ≤ size
-  opening-doubles = let e = unopened-size a.blocks empty in omega arith
 
   pub opening-asks : opening a.blocks cap ≡ true
   opening-asks = rw empty (le-leb cap 16777216 small)
@@ -272,12 +227,6 @@ module _ (a a' : Arena) (n last least size align sz al used : ℕ) (some : opene
   want' : n ≡ wanted (newest_size a.blocks) size align
   want' = want ∙ ap (λ (x : ℕ). wanted x size align) (sym last_is)
 
-  pub grow-some : 16 ≤ n
-  grow-some = omega (arith, l.above)
-
-  pub grow-doubles : 2 * newest_size a.blocks ≤ n
-  grow-doubles = omega arith
-
   pub over-extends : 67108864 < n → Extends a used size align (Err (DoesNotFit cause.BlockLimit)) a used
   over-extends over = record { beyond = λ _. (refl, refl); asks = λ under. absurd (omega (arith, want')); marked = refl }
 
@@ -297,9 +246,6 @@ module _ (a a' : Arena) (n last least size align sz al used : ℕ) (some : opene
         }
 
     module _ (at padding sz' : ℕ) (t : Takes a n (Ok at) a') (pad_is : padding ≡ pad (at + 16) align) (many : sz' ≡ size) where
-      -- it has room for the span and its padding
-      pub grow-room : padding < align → padding + sz' ≤ room a'.blocks
-      grow-room short = let e = ap room (taken-blocks a a' n at t) in omega (arith, l.above)
 
       pub granted-extends : Extends a used size align (Ok (at + 16 + padding)) a' (padding + sz')
       granted-extends =
