@@ -167,12 +167,12 @@ fn parse(blank: Blank, text: &[u8]) -> Option<Card>
         return None;
     }
     let (count, capacity, rest) = header(text)?;
-    if count > MOST_ENTRIES || count > rest.len() {
+    if count > MOST_ENTRIES {
         return None;
     }
-    let (letters, rest) = rest.split_at(count);
+    let (letters, rest) = rest.split_at_checked(count)?;
     let sizes = after(rest, b'\n')?;
-    let entries = entries(blank.entries, letters, sizes)?;
+    let entries = entries(blank, letters, sizes)?;
     Some(Card { capacity, entries })
 }
 
@@ -189,11 +189,11 @@ fn header(text: &[u8]) -> Option<(usize, usize, &[u8])>
 }
 
 /// The entries that the second and the third line write.
-fn entries(mut entries: Vec<Entry>, letters: &[u8], sizes: &[u8]) -> Option<Vec<Entry>>
-    requires empty { entries.items ≡ [] }
-    requires room { length letters.now ≤ vec_capacity entries }
+fn entries(blank: Blank, letters: &[u8], sizes: &[u8]) -> Option<Vec<Entry>>
+    requires { length letters.now ≤ 4096 }
     ensures { MatchOption result ((es : List Entry) → Lines letters.now sizes.now es → ⊥) (λ v. Lines letters.now sizes.now v.items) }
 {
+    let mut entries = blank.entries;
     let mut rest = sizes;
     for (i, letter) in letters.iter().enumerate() {
         let (entry, next) = first_entry(*letter, rest)?;
