@@ -197,12 +197,12 @@ fn entries(blank: Blank, letters: &[u8], sizes: &[u8]) -> Option<Vec<Entry>>
     let mut rest = sizes;
     for (i, letter) in letters.iter().enumerate() {
         let (entry, next) = first_entry(*letter, rest)?;
-        // The last size has no space after it.
-        if i + 1 < letters.len() {
-            rest = after(next, b' ')?;
+        // The last size has no space after it. To split its letter off first would be to read an entry in two places.
+        rest = if i + 1 < letters.len() {
+            after(next, b' ')?
         } else {
-            rest = next;
-        }
+            next
+        };
         entries.push_reserved(entry);
     }
     (rest == b"\n".as_slice()).then_some(entries)
