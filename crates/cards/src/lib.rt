@@ -18,7 +18,7 @@ use std::error::Error;
 use std::fmt;
 
 /// Longer texts are refused unread.
-const MOST_BYTES: usize = 32_768;
+pub const MOST_BYTES: usize = 32_768;
 
 const MOST_ENTRIES: usize = 4096;
 
@@ -197,7 +197,7 @@ fn entries(blank: Blank, letters: &[u8], sizes: &[u8]) -> Option<Vec<Entry>>
     let mut rest = sizes;
     for (i, letter) in letters.iter().enumerate() {
         let (entry, next) = first_entry(*letter, rest)?;
-        // The last size has no space after it. To split its letter off first would be to read an entry in two places.
+        // The last size has no space after it. Splitting its letter off would read an entry in two places.
         rest = if i + 1 < letters.len() {
             after(next, b' ')?
         } else {

@@ -19,6 +19,7 @@ pub fn run_entries<A: Allocator>(
     ensures same { OnErr result (session.new ≡ session.old) }
 {
     let mut lines = Vec::with_capacity(heap, entries.len())?;
+    // No chain: of a closure that changes the session nothing would be known.
     for (i, entry) in entries.iter().enumerate() {
         let answer = step(session, *entry);
         lines.push_reserved(Line {

@@ -1,11 +1,10 @@
 // Reads a card's text, and never more than a card may have.
 ghost use Rattle.std.specs.Prelude.{◌≡◌, ◌<◌, ◌≤◌, length, vec_len, IfSome, IfOk, MatchOption};
 
+use cards::MOST_BYTES;
 use std::alloc::Global;
 use std::io;
 use std::io::Read;
-
-const MOST_BYTES: usize = 32_768;
 
 // The bytes of the input; absent where it has more. One byte more than a card may have is asked for, to see that the input ends.
 pub fn read<R: Read + Drop>(input: R, heap: Global) -> io::Result<Option<Vec<u8>>>

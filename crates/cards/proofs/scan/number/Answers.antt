@@ -1,19 +1,13 @@
 -- That `number` finds the one number there. Assumes nothing.
 use Rattle.std.proofs.Common.{◌++◌, decimal, sym, ap, ◌∙◌, subst, arith}
 use Rattle.std.specs.Str.Parse.{digits_value}
-use Rattle.cards.specs.Digits.{AllDigits, Canonical}
-use Rattle.cards.proofs.Decimals.{run-digits, run-number, run-rest, run-value, run-canonical}
+use Rattle.cards.specs.Digits.{Canonical}
+use Rattle.cards.proofs.Decimals.{run-number, run-rest, run-value, run-canonical}
 use Rattle.cards.proofs.scan.number.Goals as goal
 
-pub to_number-requires : goal.to_number-requires
-to_number-requires c = subst AllDigits (sym c.split_at.ensures.front) (run-digits _ _ c.digits.ensures)
-
-pub returns-in_err-to_number : goal.returns-in_err-to_number
-returns-in_err-to_number c =
-    rw c.from_residual.ensures (record {
-      begins = tt;
-      every = λ n t ts small low is. c.in_err-to_number.ensures (subst Canonical (sym c.split_at.ensures.front) (run-canonical _ _ c.digits.ensures n t ts small low is));
-    })
+pub returns-in_err-to_number-clause-every : goal.returns-in_err-to_number-clause-every
+returns-in_err-to_number-clause-every c =
+    rw c.from_residual.ensures (λ n t ts small low is. c.in_err-to_number.ensures (subst Canonical (sym c.split_at.ensures.front) (run-canonical _ _ c.digits.ensures n t ts small low is)))
 
 pub returns : goal.returns
 returns c =
