@@ -1,31 +1,15 @@
 -- The letters and the sizes of a card, one entry after another. Assumes nothing.
-use Rattle.std.proofs.Common.{◌≡◌, ℕ, ◌+◌, ◌<◌, ◌≤◌, cond, eqb, List, [], ◌∷◌, ◌++◌, length, get_or, drop, decimal, sym, refl, ap, ◌∙◌, subst, arith}
+use Rattle.std.proofs.Common.{◌≡◌, ℕ, ◌+◌, ◌<◌, ◌≤◌, List, [], ◌∷◌, ◌++◌, length, get_or, drop, decimal, sym, refl, ap, ◌∙◌, subst, arith}
 use Rattle.std.proofs.lemmas.List.{append_assoc, append-nil, drop_more, drop_all}
 use Rattle.cards.specs.declared.Entry.{Entry}
 use Rattle.cards.specs.declared.Letter.{Letter}
-use Rattle.cards.specs.declared.Letter.TheVariants.{Byte, Half, Word, Double, Quad, Positions, Cues, Pop}
 use Rattle.cards.specs.Letters.{letter_of}
 use Rattle.cards.specs.Read.{Lines}
 use Rattle.cards.specs.Written.{sizes, Sound}
 use Rattle.cards.proofs.Decimals.{same-number}
 
--- the letter that a character writes, and a pop where it writes none
-abbrev letter_from : ℕ → Letter
-letter_from c =
-    cond (eqb c 98) Byte (cond (eqb c 104) Half (cond (eqb c 119) Word (cond (eqb c 100) Double (cond (eqb c 113) Quad (cond (eqb c 118) Positions (cond (eqb c 99) Cues Pop))))))
-
-letter_from-letter_of : (l : Letter) → letter_from (letter_of l) ≡ l
-letter_from-letter_of Byte = refl
-letter_from-letter_of Half = refl
-letter_from-letter_of Word = refl
-letter_from-letter_of Double = refl
-letter_from-letter_of Quad = refl
-letter_from-letter_of Positions = refl
-letter_from-letter_of Cues = refl
-letter_from-letter_of Pop = refl
-
 same-letter : (l l' : Letter) → letter_of l ≡ letter_of l' → l ≡ l'
-same-letter l l' e = sym (letter_from-letter_of l) ∙ ap letter_from e ∙ letter_from-letter_of l'
+same-letter l l' e = grind arith
 
 same-entry : (e e' : Entry) → e.letter ≡ e'.letter → e.size ≡ e'.size → e ≡ e'
 same-entry e e' p q = λ i. record { letter = p i; size = q i }

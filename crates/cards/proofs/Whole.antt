@@ -1,10 +1,10 @@
 -- A card's text, line by line. Assumes nothing.
-use Rattle.std.proofs.Common.{◌≡◌, ℕ, ◌≤◌, List, [], ◌∷◌, ◌++◌, length, take, drop, decimal, sym, refl, ap, ◌∙◌, arith}
-use Rattle.std.proofs.lemmas.List.{length-append, length-map, length-take-le, take-append-drop, take_at, drop_at}
+use Rattle.std.proofs.Common.{◌≡◌, ℕ, List, [], ◌∷◌, ◌++◌, length, take, drop, decimal, sym, refl, ap, ◌∙◌, arith}
+use Rattle.std.proofs.lemmas.List.{length-map, take_at, drop_at}
 use Rattle.cards.specs.declared.Entry.{Entry}
 use Rattle.cards.specs.Letters.{letter_of}
-use Rattle.cards.specs.Read.{Is, OneWriting, Lines}
-use Rattle.cards.specs.Written.{letters, sizes, written}
+use Rattle.cards.specs.Read.{OneWriting}
+use Rattle.cards.specs.Written.{letters, sizes}
 use Rattle.cards.proofs.Decimals.{same-number}
 use Rattle.cards.proofs.Lines.{one-lines}
 
@@ -12,26 +12,15 @@ length-letters : (es : List Entry) → length (letters es) ≡ length es
 length-letters es = length-map es (λ e. letter_of e.letter)
 
 -- what stands after the first line
-abbrev pub below : List Entry → List ℕ
+abbrev below : List Entry → List ℕ
 below es = letters es ++ 10 ∷ (sizes es ++ 10 ∷ [])
 
 module _ (es : List Entry) (rest : List ℕ) (count : ℕ) (is : rest ≡ below es) (many : count ≡ length es) where
-  pub below-letters : take count rest ≡ letters es
+  below-letters : take count rest ≡ letters es
   below-letters = ap (take count) is ∙ take_at (letters es) _ count (length-letters es ∙ sym many)
 
-  pub below-sizes : drop count rest ≡ 10 ∷ (sizes es ++ 10 ∷ [])
+  below-sizes : drop count rest ≡ 10 ∷ (sizes es ++ 10 ∷ [])
   below-sizes = ap (drop count) is ∙ drop_at (letters es) _ count (length-letters es ∙ sym many)
-
-  pub below-long : count ≤ length rest
-  below-long = omega (arith, ap length is ∙ length-append (letters es) (10 ∷ (sizes es ++ 10 ∷ [])), length-letters es)
-
--- what is read line by line is the card
-pub join : (text rest ls back ss : List ℕ) (count capacity : ℕ) (es : List Entry) → length text ≤ 32768 → count ≤ 4096 → capacity ≤ 99999999 → count ≤ length rest → text ≡ decimal count ++ 32 ∷ (decimal capacity ++ 10 ∷ rest) → ls ≡ take count rest → back ≡ drop count rest → back ≡ 10 ∷ ss → Lines ls ss es → Is text capacity es
-join text rest ls back ss count capacity es short few small long is front behind ended lines =
-    let many : length es ≡ count = sym (length-letters es) ∙ ap length (lines.letters_are ∙ front) ∙ length-take-le count rest long in
-    let whole : below es ≡ rest = (λ i. lines.letters_are i ++ 10 ∷ lines.sizes_are i) ∙ (λ i. front i ++ (sym ended ∙ behind) i) ∙ take-append-drop count rest in
-    let same : written capacity es ≡ text = (λ i. decimal (many i) ++ 32 ∷ (decimal capacity ++ 10 ∷ whole i)) ∙ sym is in
-    (record { count = omega arith; small = small; sound = lines.sound; bytes = omega (arith, ap length same) }, same)
 
 -- no two cards have one text
 pub one-writing : OneWriting

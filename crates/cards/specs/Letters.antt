@@ -1,5 +1,5 @@
--- The letters of a card, and the number of its refusal. Assumes nothing.
-use Rattle.std.specs.Prelude.{ℕ, Some, None, Option}
+-- The letters of a card, the number of its refusal, and what is printed of both. Assumes nothing.
+use Rattle.std.specs.Prelude.{ℕ, List, [], ◌∷◌, ◌++◌, Some, None, Option, codes, decimal}
 use Rattle.cards.specs.declared.Fault.{Fault}
 use Rattle.cards.specs.declared.Fault.TheVariants.{Broken}
 use Rattle.cards.specs.declared.Letter.{Letter}
@@ -16,6 +16,9 @@ letter_of Positions = 118
 letter_of Cues = 99
 letter_of Pop = 112
 
+abbrev pub letter_text : Letter → List ℕ
+letter_text letter = letter_of letter ∷ []
+
 -- the alignment of a push; what is no push has none
 abbrev pub align_of : Letter → Option ℕ
 align_of Byte = Some 1
@@ -29,3 +32,6 @@ align_of Pop = None
 
 abbrev pub refusal : Fault → ℕ
 refusal Broken = 11
+
+abbrev pub refusal_text : Fault → List ℕ
+refusal_text fault = codes "refused " ++ decimal (refusal fault)

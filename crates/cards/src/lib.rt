@@ -3,8 +3,9 @@
 //! 99,999,999, and has no leading zero.
 #![tactic(auto)]
 
-ghost use Rattle.std.specs.Prelude.{◌≡◌, ℕ, ◌<◌, ◌≤◌, List, [], ◌∷◌, ◌++◌, length, IfSome, vec_capacity, decimal, MatchOption, ◌≢◌};
-ghost use Rattle.cards.specs.Letters.{letter_of, align_of, refusal};
+ghost use Rattle.std.specs.Prelude.{◌≡◌, ℕ, ◌<◌, ◌≤◌, List, [], ◌∷◌, ◌++◌, length, IfSome, vec_capacity, decimal, MatchOption, MatchResult, Some, ◌≢◌};
+ghost use Rattle.cards.specs.Letters.{letter_of, letter_text, align_of, refusal, refusal_text};
+ghost use Rattle.cards.specs.declared.Letter.{Letter};
 ghost use Rattle.cards.specs.Read.{capacity_of, entries_of, Is, NoCard, Read, OneWriting, Lines};
 ghost use Rattle.cards.specs.Written.{Sound};
 
@@ -13,9 +14,11 @@ mod scan;
 
 pub use blanks::Blank;
 use scan::{after, number};
+use std::error::Error;
+use std::fmt;
 
 /// Longer texts are refused unread.
-const MOST_BYTES: usize = 32_768;
+pub const MOST_BYTES: usize = 32_768;
 
 const MOST_ENTRIES: usize = 4096;
 
@@ -32,28 +35,33 @@ pub enum Letter {
     Pop,
 }
 
-impl Letter {
-    pub fn read(letter: char) -> Option<Letter>
-        ensures { MatchOption result ((l : Letter) → letter_of l ≢ letter) (λ l. letter_of l ≡ letter) }
-    {
+/// A character that is no letter's is no card's.
+impl TryFrom<char> for Letter {
+    type Error = Fault;
+
+    ghost try_from_gives = { λ c r. MatchResult r (λ l. letter_of l ≡ c) (λ _. (l : Letter) → letter_of l ≢ c) };
+
+    fn try_from(letter: char) -> Result<Letter, Fault> {
         match letter {
-            'b' => Some(Letter::Byte),
-            'h' => Some(Letter::Half),
-            'w' => Some(Letter::Word),
-            'd' => Some(Letter::Double),
-            'q' => Some(Letter::Quad),
-            'v' => Some(Letter::Positions),
-            'c' => Some(Letter::Cues),
-            'p' => Some(Letter::Pop),
-            _ => None,
+            'b' => Ok(Letter::Byte),
+            'h' => Ok(Letter::Half),
+            'w' => Ok(Letter::Word),
+            'd' => Ok(Letter::Double),
+            'q' => Ok(Letter::Quad),
+            'v' => Ok(Letter::Positions),
+            'c' => Ok(Letter::Cues),
+            'p' => Ok(Letter::Pop),
+            _ => Err(Fault::Broken),
         }
     }
+}
 
-    /// The character that writes it.
-    pub fn letter(self) -> char
-        ensures { result ≡ letter_of self }
-    {
-        match self {
+/// The character that writes it.
+impl From<Letter> for char {
+    ghost from_gives = { λ l c. c ≡ letter_of l };
+
+    fn from(letter: Letter) -> char {
+        match letter {
             Letter::Byte => 'b',
             Letter::Half => 'h',
             Letter::Word => 'w',
@@ -64,7 +72,18 @@ impl Letter {
             Letter::Pop => 'p',
         }
     }
+}
 
+impl fmt::Display for Letter {
+    ghost output = { λ l. Some (letter_text l) };
+
+    fn fmt<W: fmt::Write>(&self, f: &mut fmt::Formatter<W>) -> fmt::Result {
+        let letter = char::from(*self);
+        write!(f, "{letter}")
+    }
+}
+
+impl Letter {
     /// The alignment of a push; what is no push has none.
     pub fn align(self) -> Option<usize>
         ensures { result ≡ align_of self }
@@ -90,18 +109,27 @@ pub struct Entry {
 /// Why a text is refused.
 #[derive(Clone, Copy, PartialEq, Eq, Debug)]
 pub enum Fault {
-    Broken,
+    Broken = 11,
 }
 
 impl Fault {
     pub fn number(self) -> u32
         ensures { result ≡ refusal self }
     {
-        match self {
-            Fault::Broken => 11,
-        }
+        self as u32
     }
 }
+
+impl fmt::Display for Fault {
+    ghost output = { λ f. Some (refusal_text f) };
+
+    fn fmt<W: fmt::Write>(&self, f: &mut fmt::Formatter<W>) -> fmt::Result {
+        let number = self.number();
+        write!(f, "refused {number}")
+    }
+}
+
+impl Error for Fault {}
 
 #[derive(Drop)]
 pub struct Card {
@@ -115,10 +143,7 @@ impl Card {
         ensures answer { Read text.now result }
         ensures one { OneWriting }
     {
-        match parse(blank, text) {
-            Some(card) => Ok(card),
-            None => Err(Fault::Broken),
-        }
+        parse(blank, text).ok_or(Fault::Broken)
     }
 
     pub fn capacity(&self) -> usize
@@ -142,12 +167,12 @@ fn parse(blank: Blank, text: &[u8]) -> Option<Card>
         return None;
     }
     let (count, capacity, rest) = header(text)?;
-    if count > MOST_ENTRIES || count > rest.len() {
+    if count > MOST_ENTRIES {
         return None;
     }
-    let (letters, rest) = rest.split_at(count);
+    let (letters, rest) = rest.split_at_checked(count)?;
     let sizes = after(rest, b'\n')?;
-    let entries = entries(blank.entries, letters, sizes)?;
+    let entries = entries(blank, letters, sizes)?;
     Some(Card { capacity, entries })
 }
 
@@ -164,24 +189,23 @@ fn header(text: &[u8]) -> Option<(usize, usize, &[u8])>
 }
 
 /// The entries that the second and the third line write.
-fn entries(mut entries: Vec<Entry>, letters: &[u8], sizes: &[u8]) -> Option<Vec<Entry>>
-    requires empty { entries.items ≡ [] }
-    requires room { length letters.now ≤ vec_capacity entries }
+fn entries(blank: Blank, letters: &[u8], sizes: &[u8]) -> Option<Vec<Entry>>
+    requires { length letters.now ≤ 4096 }
     ensures { MatchOption result ((es : List Entry) → Lines letters.now sizes.now es → ⊥) (λ v. Lines letters.now sizes.now v.items) }
 {
+    let mut entries = blank.entries;
     let mut rest = sizes;
     for (i, letter) in letters.iter().enumerate() {
         let (entry, next) = first_entry(*letter, rest)?;
-        // The last size has no space after it.
-        if i + 1 < letters.len() {
-            rest = after(next, b' ')?;
+        // The last size has no space after it. Splitting its letter off would read an entry in two places.
+        rest = if i + 1 < letters.len() {
+            after(next, b' ')?
         } else {
-            rest = next;
-        }
+            next
+        };
         entries.push_reserved(entry);
     }
-    let end = after(rest, b'\n')?;
-    if end.is_empty() { Some(entries) } else { None }
+    (rest == b"\n".as_slice()).then_some(entries)
 }
 
 /// The entry of a letter and the size that the text begins with, and what follows the size.
@@ -189,7 +213,7 @@ fn first_entry(letter: u8, text: &[u8]) -> Option<(Entry, &[u8])>
     ensures begins { IfSome result (λ p. (letter_of p.0.letter ≡ letter) × Sound p.0 × (text.now ≡ decimal p.0.size ++ p.1.now)) }
     ensures every { (e : Entry) (t : ℕ) (ts : List ℕ) → Sound e → letter_of e.letter ≡ letter → t < 48 → text.now ≡ decimal e.size ++ t ∷ ts → MatchOption result ⊥ (λ p. (p.0 ≡ e) × (p.1.now ≡ t ∷ ts)) }
 {
-    let letter = Letter::read(char::from(letter))?;
+    let letter = Letter::try_from(char::from(letter)).ok()?;
     let (size, rest) = number(text)?;
     if letter == Letter::Pop && size > 0 {
         return None;

@@ -1,6 +1,8 @@
-ghost use Rattle.std.specs.Prelude.{◌≡◌, ℕ, ◌<◌, ◌≤◌, List, ◌∷◌, ◌++◌, length, IfSome, decimal, MatchBool, MatchOption, ◌≢◌};
+ghost use Rattle.std.specs.Prelude.{◌≡◌, ℕ, ◌<◌, ◌≤◌, List, ◌∷◌, ◌++◌, length, IfSome, decimal, MatchOption, ◌≢◌};
 ghost use Rattle.std.specs.Str.Parse.{digits_value};
 ghost use Rattle.cards.specs.Digits.{AllDigits, Run, Canonical};
+
+use std::str;
 
 /// The largest number, 99,999,999, has eight digits.
 const MOST_DIGITS: usize = 8;
@@ -9,34 +11,18 @@ const MOST_DIGITS: usize = 8;
 fn digits(text: &[u8]) -> usize
     ensures { Run text.now result }
 {
-    let mut n = 0;
-    while n < text.len() && text[n].is_ascii_digit() {
-        n += 1;
-    }
-    n
+    text.iter().take_while(|b| b.is_ascii_digit()).count()
 }
 
-/// The number that the digits write.
-fn to_number(digits: &[u8]) -> usize
-    requires few { length digits.now ≤ 8 }
-    requires all { AllDigits digits.now }
-    ensures { result ≡ digits_value 10 digits.now }
+/// The number that the digits write, if they write it as a card does, with no leading zero.
+fn to_number(digits: &[u8]) -> Option<usize>
+    requires { AllDigits digits.now }
+    ensures { MatchOption result (Canonical digits.now → ⊥) (λ n. Canonical digits.now × (n ≡ digits_value 10 digits.now)) }
 {
-    let mut n = 0;
-    for digit in digits {
-        n = n * 10 + usize::from(*digit - b'0');
+    if digits.len() > MOST_DIGITS || digits.len() > 1 && digits[0] == b'0' {
+        return None;
     }
-    n
-}
-
-/// Whether the digits are those of a number as a card writes it, with no leading zero.
-fn canonical(digits: &[u8]) -> bool
-    ensures { MatchBool result (Canonical digits.now) (Canonical digits.now → ⊥) }
-{
-    if digits.is_empty() || digits.len() > MOST_DIGITS {
-        return false;
-    }
-    digits.len() == 1 || digits[0] != b'0'
+    str::from_utf8(digits).ok()?.parse().ok()
 }
 
 /// The number that the text begins with, and what follows it.
@@ -45,18 +31,12 @@ pub(crate) fn number(text: &[u8]) -> Option<(usize, &[u8])>
     ensures every { (n t : ℕ) (ts : List ℕ) → n ≤ 99999999 → t < 48 → text.now ≡ decimal n ++ t ∷ ts → MatchOption result ⊥ (λ p. (p.0 ≡ n) × (p.1.now ≡ t ∷ ts)) }
 {
     let (front, rest) = text.split_at(digits(text));
-    if !canonical(front) {
-        return None;
-    }
-    Some((to_number(front), rest))
+    Some((to_number(front)?, rest))
 }
 
 /// What follows the byte that the text has to begin with.
 pub(crate) fn after(text: &[u8], byte: u8) -> Option<&[u8]>
     ensures { MatchOption result ((ts : List ℕ) → text.now ≢ byte ∷ ts) (λ rest. text.now ≡ byte ∷ rest.now) }
 {
-    match text.split_first() {
-        Some((first, rest)) if *first == byte => Some(rest),
-        _ => None,
-    }
+    text.strip_prefix(&[byte])
 }

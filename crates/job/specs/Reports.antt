@@ -1,5 +1,5 @@
 -- What the run of a card reports: each line shows what the session answered to the call of its entry.
-use Rattle.std.specs.Prelude.{◌≡◌, ℕ, suc, ◌-◌, ◌*◌, ◌^◌, min, List, [], ◌∷◌}
+use Rattle.std.specs.Prelude.{◌≡◌, ℕ, suc, ◌-◌, ◌*◌, ◌^◌, min, List, [], ◌∷◌, Result, Ok, Err}
 use Rattle.allocator.specs.declared.Allocator.{Ghosts}
 use Rattle.cards.specs.declared.Entry.{Entry}
 use Rattle.cards.specs.declared.Letter.{Letter}
@@ -8,9 +8,10 @@ use Rattle.session.specs.Calls.{Call, push, pop_newest, Event, event}
 use Rattle.session.specs.Calls as calls
 use Rattle.session.specs.Sessions.{Performs}
 use Rattle.session.specs.Runs.{Run}
+use Rattle.session.specs.declared.fault.Fault.{Fault}
 use Rattle.session.specs.declared.session.Session.{Session}
 use Rattle.job.specs.declared.listing.Answer.{Answer}
-use Rattle.job.specs.declared.listing.Answer.TheVariants.{At, Done, Refused}
+use Rattle.job.specs.declared.listing.Answer.TheVariants.{At, Done}
 use Rattle.job.specs.declared.listing.Line.{Line}
 
 abbrev pub call_by : Letter → ℕ → Call
@@ -28,14 +29,14 @@ abbrev pub call_of : Entry → Call
 call_of entry = call_by entry.letter entry.size
 
 -- what the line shows of an answer; no call of a card loads
-abbrev pub Shows : calls.Answer → Answer → Type 0
-Shows (calls.granted grant at) shown = shown ≡ At at
-Shows calls.done shown = shown ≡ Done
-Shows (calls.refused fault) shown = shown ≡ Refused fault
+abbrev pub Shows : calls.Answer → Result Answer Fault → Type 0
+Shows (calls.granted grant at) shown = shown ≡ Ok (At at)
+Shows calls.done shown = shown ≡ Ok Done
+Shows (calls.refused fault) shown = shown ≡ Err fault
 Shows (calls.byte value) shown = ⊥
 
 -- the session performed the call, and its answer is shown
-pub record Told {A : Type 0} (allocator : Ghosts A) (s : Session A) (call : Call) (shown : Answer) (s' : Session A) : Type 0 where
+pub record Told {A : Type 0} (allocator : Ghosts A) (s : Session A) (call : Call) (shown : Result Answer Fault) (s' : Session A) : Type 0 where
   pub answer : calls.Answer
   pub shows : Shows answer shown
   pub performs : Performs allocator s call answer s'

@@ -1,22 +1,27 @@
 -- What is printed of a run.
-use Rattle.std.specs.Prelude.{ℕ, List, ◌∷◌, ◌++◌, codes, decimal}
+use Rattle.std.specs.Prelude.{ℕ, List, ◌∷◌, ◌++◌, codes, decimal, Result, Ok, Err}
 use Rattle.allocator.specs.Stats.{min_capacity}
 use Rattle.cards.specs.Letters.{letter_of}
 use Rattle.session.specs.Faults.{refusal}
+use Rattle.session.specs.declared.fault.Fault.{Fault}
 use Rattle.job.specs.declared.listing.Answer.{Answer}
-use Rattle.job.specs.declared.listing.Answer.TheVariants.{At, Done, Refused}
+use Rattle.job.specs.declared.listing.Answer.TheVariants.{At, Done}
 use Rattle.job.specs.declared.listing.Line.{Line}
 use Rattle.job.specs.declared.listing.Totals.{Totals}
 
--- an address, `ok`, or `refused` and the number
+-- an address, or `ok`
 abbrev pub answer_text : Answer → List ℕ
 answer_text (At address) = decimal address
 answer_text Done = codes "ok"
-answer_text (Refused fault) = codes "refused " ++ decimal (refusal fault)
+
+-- the answer, or `refused` and the number
+abbrev pub shown_text : Result Answer Fault → List ℕ
+shown_text (Ok answer) = answer_text answer
+shown_text (Err fault) = codes "refused " ++ decimal (refusal fault)
 
 -- the number of the entry, its letter, and the answer
 abbrev pub line_text : Line → List ℕ
-line_text line = decimal line.number ++ (32 ∷ (letter_of line.letter ∷ (32 ∷ answer_text line.answer)))
+line_text line = decimal line.number ++ (32 ∷ (letter_of line.letter ∷ (32 ∷ shown_text line.answer)))
 
 -- the peaks of bytes and spans, the largest alignment, the need, the growths and the bytes held
 abbrev pub totals_text : Totals → List ℕ

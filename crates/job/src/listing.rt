@@ -7,12 +7,11 @@ use cards::Letter;
 use session::Fault;
 use std::fmt;
 
-// What an entry was answered: the address of a push, a pop that is done, or a refusal.
-#[derive(Clone, Copy)]
+// What was done for an entry: a push has its address, and a pop is done.
+#[derive(Clone, Copy, PartialEq, Eq, Debug)]
 pub enum Answer {
     At(usize),
     Done,
-    Refused(Fault),
 }
 
 impl fmt::Display for Answer {
@@ -22,35 +21,36 @@ impl fmt::Display for Answer {
         match *self {
             Answer::At(address) => write!(f, "{address}"),
             Answer::Done => write!(f, "ok"),
-            Answer::Refused(fault) => {
-                let number = fault.number();
-                write!(f, "refused {number}")
-            }
         }
     }
 }
 
-#[derive(Clone, Copy)]
+#[derive(Clone, Copy, PartialEq, Eq, Debug)]
 pub struct Line {
     // from 1
     pub number: usize,
     pub letter: Letter,
-    pub answer: Answer,
+    pub answer: Result<Answer, Fault>,
 }
 
 impl fmt::Display for Line {
     ghost output = { λ x. Some (line_text x) };
 
     fn fmt<W: fmt::Write>(&self, f: &mut fmt::Formatter<W>) -> fmt::Result {
-        let number = self.number;
-        let letter = self.letter.letter();
-        let answer = self.answer;
-        write!(f, "{number} {letter} {answer}")
+        let Line {
+            number,
+            letter,
+            answer,
+        } = *self;
+        match answer {
+            Ok(answer) => write!(f, "{number} {letter} {answer}"),
+            Err(fault) => write!(f, "{number} {letter} {fault}"),
+        }
     }
 }
 
 // The last line.
-#[derive(Clone, Copy)]
+#[derive(Clone, Copy, PartialEq, Eq, Debug)]
 pub struct Totals {
     pub stats: AllocationStats,
     pub grown: usize,
@@ -61,15 +61,14 @@ impl fmt::Display for Totals {
     ghost output = { λ x. Some (totals_text x) };
 
     fn fmt<W: fmt::Write>(&self, f: &mut fmt::Formatter<W>) -> fmt::Result {
-        let bytes = self.stats.max_bytes_allocated;
-        let spans = self.stats.max_allocations;
-        let alignment = self.stats.max_alignment;
-        let need = self.stats.min_arena_capacity();
-        let grown = self.grown;
-        let held = self.held;
+        let Totals { stats, grown, held } = *self;
         write!(
             f,
-            "peak {bytes} {spans} {alignment} need {need} grown {grown} held {held}"
+            "peak {} {} {} need {} grown {grown} held {held}",
+            stats.max_bytes_allocated,
+            stats.max_allocations,
+            stats.max_alignment,
+            stats.min_arena_capacity()
         )
     }
 }

@@ -7,6 +7,7 @@ use cards::{Blank, Card};
 use job::{Totals, run_entries};
 use region::Region;
 use std::alloc::Global;
+use std::error::Error;
 use uses::{begin, end, open};
 
 // How many bytes the region has.
@@ -17,14 +18,12 @@ fn main(rt: HostRuntime) -> anyhow::Result<()> {
 }
 
 fn replay(rt: &HostRuntime, heap: Global) -> anyhow::Result<()> {
-    let mut room = vec![in heap; 0u8; input::MOST_BYTES]?;
-    let Some(len) = input::read(&mut rt.stdin(), room.as_mut_slice())? else {
-        return refuse(rt, cards::Fault::Broken.number());
+    let Some(text) = input::read(rt.stdin(), heap)? else {
+        return refuse(rt, cards::Fault::Broken);
     };
-    let text = &room.as_slice()[0..len];
-    match Card::read(Blank::new(heap)?, text) {
+    match Card::read(Blank::new(heap)?, text.as_slice()) {
         Ok(card) => run(rt, heap, &card),
-        Err(fault) => refuse(rt, fault.number()),
+        Err(fault) => refuse(rt, fault),
     }
 }
 
@@ -33,7 +32,7 @@ fn run(rt: &HostRuntime, heap: Global, card: &Card) -> anyhow::Result<()> {
     let region = Region::new(vec![in heap; 0u8; REGION_BYTES]?);
     let arena = match open(region, card.capacity()) {
         Ok(arena) => arena,
-        Err((fault, _)) => return refuse(rt, fault.number()),
+        Err((fault, _)) => return refuse(rt, fault),
     };
     let mut session = begin(arena);
     let lines = run_entries(&mut session, heap, card.entries())?;
@@ -50,7 +49,7 @@ fn run(rt: &HostRuntime, heap: Global, card: &Card) -> anyhow::Result<()> {
     Ok(())
 }
 
-fn refuse(rt: &HostRuntime, number: u32) -> anyhow::Result<()> {
-    println!(rt; "refused {number}")?;
+fn refuse<F: Error>(rt: &HostRuntime, fault: F) -> anyhow::Result<()> {
+    println!(rt; "{fault}")?;
     Ok(())
 }

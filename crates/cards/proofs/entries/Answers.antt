@@ -1,6 +1,10 @@
 -- What each step of the loop and each way out of `entries` shows. Assumes nothing.
-use Rattle.std.proofs.Common.{◌≡◌, ◌+◌, [], ◌∷◌, length, drop, sym, ap, ◌∙◌, subst, arith, true-eqb, false-eqb}
-use Rattle.std.proofs.lemmas.List.{nil_from_length}
+use Rattle.std.proofs.Common.{◌≡◌, ◌≢◌, ◌+◌, true, false, eqb, List, [], ◌∷◌, drop, sym, ap, ◌∙◌, subst, arith}
+use Rattle.std.specs.Bool.{MatchBool, then_some}
+use Rattle.std.specs.Cmp.Lexicographic.{pointwise, told_text}
+use Rattle.std.specs.Option.{MatchOption}
+use Rattle.cards.specs.Read.{Lines}
+use Rattle.cards.specs.declared.Entry.{Entry}
 use Rattle.cards.proofs.Lines.{Sofar, Apart, upcoming, one-more, all-seen, no-other, apart-more, apart-last, apart-next}
 use Rattle.cards.proofs.entries.Goals as goal
 use Rattle.cards.proofs.entries.Goals.{then-i-letters+in_ok-rest, else-i-letters}
@@ -34,17 +38,10 @@ loop-i-preserved c =
           (one-more c.loop-i.invariant.2 c.in_ok-entry.entry c.in_ok-entry.next.now c.if-i-letters.rest.now (omega arith) begins.0 begins.1 begins.2 apart (λ e t ts. c.in_ok-entry.ensures.every e t ts)),
     )
 
-pub returns-in_err-end : goal.returns-in_err-end
-returns-in_err-end c =
-    rw c.from_residual-in_err-end.ensures (λ es h. c.in_err-end.ensures [] (no-other c.loop-i.invariant.2 (omega arith) es h))
-
-pub returns-then-is_empty : goal.returns-then-is_empty
-returns-then-is_empty c =
-    let none = nil_from_length c.in_ok-end.end.now (true-eqb _ 0 c.if-is_empty.ensures) in
-    all-seen c.loop-i.invariant.2 (omega arith) (c.in_ok-end.ensures ∙ ap (λ r. 10 ∷ r) none)
-
-pub returns-else-is_empty : goal.returns-else-is_empty
-returns-else-is_empty c es h =
-    let whole = no-other c.loop-i.invariant.2 (omega arith) es h in
-    let none : c.in_ok-end.end.now ≡ [] = cc (whole, c.in_ok-end.ensures) in
-    false-eqb _ 0 c.if-is_empty.ensures (ap length none)
+pub returns : goal.returns
+returns c =
+    let ended = told_text c.loop-i.rest.now (10 ∷ []) c.eq.result (c.eq.ensures ∙ ap (pointwise eqb c.loop-i.rest.now) c.as_slice.ensures) in
+    rw c.then_some.ensures (elim c.eq.result as (λ b. MatchBool b (c.loop-i.rest.now ≡ 10 ∷ []) (c.loop-i.rest.now ≢ 10 ∷ []) → MatchOption (then_some b c.loop-i.entries) ((es : List Entry) → Lines c.args.letters.now c.args.sizes.now es → ⊥) (λ v. Lines c.args.letters.now c.args.sizes.now v.items)) [
+      | true ↦ λ is. all-seen c.loop-i.invariant.2 (omega arith) is
+      | false ↦ λ not es h. not (no-other c.loop-i.invariant.2 (omega arith) es h)
+    ] ended)

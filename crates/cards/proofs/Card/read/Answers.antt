@@ -2,8 +2,5 @@
 use Rattle.cards.proofs.Whole.{one-writing}
 use Rattle.cards.proofs.Card.read.Goals as goal
 
-pub returns-in-Some : goal.returns-in-Some
-returns-in-Some c = record { answer = c.in-Some.ensures; one = one-writing }
-
-pub returns-in-None : goal.returns-in-None
-returns-in-None c = record { answer = c.in-None.ensures; one = one-writing }
+pub returns-clause-one : goal.returns-clause-one
+returns-clause-one c = one-writing

@@ -1,5 +1,4 @@
 use Rattle.std.proofs.Common.{◌+◌, [], get_or, take, vec_items, sym, refl, subst, arith}
-use Rattle.std.proofs.lemmas.List.{take_all}
 use Rattle.session.specs.Runs.{opened}
 use Rattle.cards.specs.declared.Entry.{Entry}
 use Rattle.cards.specs.declared.Letter.TheVariants.{Byte}
@@ -29,11 +28,3 @@ loop-i-preserved g c =
       omega (arith, c.push_reserved.ensures.len, c.loop-i.invariant.1),
       omega (arith, c.push_reserved.ensures.capacity, c.loop-i.invariant.2),
     )
-
-pub returns : goal.returns
-returns g c =
-    let entries = c.args.entries.now in
-    record {
-      reports = subst (λ es. Reported g.A.Allocator c.args.session.now es (vec_items c.loop-i.lines) c.loop-i.session) (take_all c.loop-i.i entries c.loop-i-test.false) c.loop-i.invariant.0;
-      same = tt;
-    }
