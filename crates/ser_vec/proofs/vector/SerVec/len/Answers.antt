@@ -1,12 +1,12 @@
 -- A live vector tells its length.
+use Rattle.std.proofs.Common.{◌≡◌, rules}
 use Rattle.ser_vec.specs.Vectors.{plain, tells}
+use Rattle.ser_vec.proofs.Stores.{failed}
 use Rattle.ser_vec.proofs.Vectors.{dead, alone}
 use Rattle.ser_vec.proofs.vector.SerVec.len.Goals as goal
 
-pub returns-then-not-is_live : goal.returns-then-not-is_live
-returns-then-not-is_live g c =
-    dead g.A.Allocator g.K.Kind.wide _ (plain c.args.self.now.header) c.args.session.now c.width.result c.width.ensures c.is_live.result c.is_live.ensures.no c.if-not-is_live.true
+pub returns-in_err-live : goal.returns-in_err-live
+returns-in_err-live g c = dead c.in_err-live.ensures (failed _ c.from_residual.ensures.1)
 
 pub returns : goal.returns
-returns g c =
-    alone g.A.Allocator g.K.Kind.wide _ (plain c.args.self.now.header) c.args.session.now c.width.result c.width.ensures c.is_live.result c.is_live.ensures.yes c.if-not-is_live.false tells
+returns g c = let e : c.map_or.result ≡ (plain c.args.self.now.header).len = search rules in rw e (alone c.in_ok-live.ensures tells)
