@@ -1,5 +1,5 @@
 -- Bytes stored one by one are a run of the session, and stand where they were stored.
-use Rattle.std.proofs.Common.{◌≡◌, ℕ, suc, ◌+◌, ◌*◌, ◌<◌, ◌≤◌, true, ◌≢◌, ◌⊎◌, List, [], ◌∷◌, length, Err, Result, get_or, sym, refl, ap, ◌∙◌, subst, inl, inr, mul-le-mul_right, suc-mul, add-mul, add-one, arith}
+use Rattle.std.proofs.Common.{◌≡◌, ℕ, suc, zero, ◌+◌, ◌-◌, ◌*◌, ◌<◌, ◌≤◌, true, ◌≢◌, ◌⊎◌, List, [], ◌∷◌, ◌++◌, length, Err, Result, get_or, sym, refl, ap, ◌∙◌, subst, inl, inr, mul-le-mul_right, suc-mul, add-mul, add-one, add-zero, add-suc, add_assoc, one-mul, arith}
 use Rattle.std.specs.Result.{IsErrAnd}
 use Rattle.std.proofs.lemmas.List.{append-nil}
 use Rattle.std.proofs.lemmas.Result.{err_from_is_err_and}
@@ -11,7 +11,7 @@ use Rattle.allocator.proofs.Spans.{untaken-outside}
 use Rattle.kind.specs.declared.Kind as kinds
 use Rattle.session.specs.Ledger.{Span}
 use Rattle.session.specs.Records.{Held}
-use Rattle.session.specs.Calls.{Event, event, store, done, refused}
+use Rattle.session.specs.Calls.{Event, event, Answer, store, done, refused}
 use Rattle.session.specs.Steps.{State, new_state, Step, stores, refuses, store_not_live, store_outside, store_untaken}
 use Rattle.session.specs.Sessions.{state, Performs}
 use Rattle.session.specs.Runs.{Run, opened, visited}
@@ -19,7 +19,7 @@ use Rattle.session.specs.declared.fault.Fault.{Fault}
 use Rattle.session.specs.declared.fault.Fault.TheVariants.{Allocator}
 use Rattle.session.specs.declared.session.Session.{Session}
 use Rattle.session.proofs.Blocks.{byte_at-stored, byte_at-other}
-use Rattle.ser_vec.specs.Elements.{stores_of, packings, Unique, Laid, Regular, Room, Stored, Writes}
+use Rattle.ser_vec.specs.Elements.{stores_of, packings, Unique, Laid, Regular, Room, Stored, StoredCut, Writes}
 use Rattle.ser_vec.specs.declared.fault.Fault as ours
 use Rattle.ser_vec.specs.declared.fault.Fault.TheVariants.{Session as Nested}
 use Rattle.ser_vec.proofs.Packings.{joined-at}
@@ -123,26 +123,99 @@ module _ {A : Type 0} (al : Ghosts A) (s : Session A) (grant at offset : ℕ) (b
 pub packing-of-one : {K : Type 0} (kind : kinds.Ghosts K) (x : K) (j : ℕ) {v : ℕ} → v ≡ get_or (kind.packed x) j 0 → v ≡ get_or (packings kind (x ∷ [])) j 0
 packing-of-one kind x j read = read ∙ ap (λ (z : List ℕ). get_or z j 0) (sym (append-nil (kind.packed x)))
 
--- the store of byte j of the element at i, in the order of `write_all`
-module _ {A K : Type 0} (al : Ghosts A) (kind : kinds.Ghosts K) (exact : (x : K) → length (kind.packed x) ≡ kind.wide) (s s₁ s₂ : Session A) (grant at index w : ℕ) (xs : List K) (i j v : ℕ) (x : K)
-    (e : w ≡ kind.wide) (here : i < length xs) (less : j < w) (is : x ≡ get_or xs i x) (read : v ≡ get_or (kind.packed x) j 0)
-    (room : Room al s grant at (index * w) (length xs * w)) (sofar : Stored al s grant at (index * w) (packings kind xs) (i * w + j) s₁) where
-  inside-all : i * w + j < length xs * w
-  inside-all = omega (arith, suc-mul i w, mul-le-mul_right w (suc-le i (length xs) here))
+-- a run after a run
+run-after : {A : Type 0} {al : Ghosts A} {s s₁ s₂ : Session A} {first second : List Event} → Run al s first s₁ → Run al s₁ second s₂ → Run al s (second ++ first) s₂
+run-after one opened = one
+run-after one (visited earlier performs) = visited (run-after one earlier) performs
 
-  value-is : v ≡ get_or (packings kind xs) (i * w + j) 0
-  value-is = read ∙ ap (λ (y : K). get_or (kind.packed y) j 0) is ∙ sym (joined-at kind.packed w (λ y. exact y ∙ sym e) xs i j x here less)
+-- bytes that were stored, and then more of the same bytes
+module _ (bs cs : List ℕ) (n most : ℕ) (same : (j : ℕ) → j < most → get_or cs j 0 ≡ get_or bs (n + j) 0) where
+  event-after : (grant o k : ℕ) → k < most → (answer : Answer) → event (store grant (o + n + k) (get_or cs k 0)) answer ≡ event (store grant (o + (n + k)) (get_or bs (n + k) 0)) answer
+  event-after grant o k less answer =
+      ap (λ a. event (store grant a (get_or cs k 0)) answer) (add_assoc o n k) ∙ ap (λ v. event (store grant (o + (n + k)) v) answer) (same k less)
 
-  place-is : (index + i) * w + j ≡ index * w + (i * w + j)
-  place-is = omega (arith, add-mul index i w)
+  stores-after : (grant o k : ℕ) → k ≤ most → stores_of grant (o + n) cs k ++ stores_of grant o bs n ≡ stores_of grant o bs (n + k)
+  stores-after grant o zero less = ap (stores_of grant o bs) (sym (add-zero n))
+  stores-after grant o (suc k) less =
+      ap (λ (e : Event). e ∷ (stores_of grant (o + n) cs k ++ stores_of grant o bs n)) (event-after grant o k (omega arith) done)
+      ∙ ap (λ (es : List Event). event (store grant (o + (n + k)) (get_or bs (n + k) 0)) done ∷ es) (stores-after grant o k (omega arith)) ∙ ap (stores_of grant o bs) (sym (add-suc n k))
 
-  pub byte-stored : Performs al s₁ (store grant ((index + i) * w + j) v) done s₂ → Stored al s grant at (index * w) (packings kind xs) (i * w + (j + 1)) s₂
-  byte-stored performs =
-      let more : i * w + j + 1 ≡ i * w + (j + 1) = omega arith in
-      subst (λ n. Stored al s grant at (index * w) (packings kind xs) n s₂) more
-      (stored-more al s grant at (index * w) (packings kind xs) (length xs * w) room (i * w + j) v inside-all value-is s₁ s₂ sofar (subst (λ o. Performs al s₁ (store grant o v) done s₂) place-is performs))
+  laid-after : {s s₁ s₂ : State} (at k : ℕ) → k ≤ most → Laid s at bs n s₁ → Laid s₁ (at + n) cs k s₂ → Laid s at bs (n + k) s₂
+  laid-after {s = s} {s₁ = s₁} {s₂ = s₂} at k less one two =
+      record {
+        live = two.live ∙ one.live;
+        given = two.given ∙ one.given;
+        there = λ j inside. elim (cases_lt j n) [
+          | inl before ↦ two.elsewhere (at + j) (inl (omega arith)) ∙ one.there j before
+          | inr past ↦
+              let q = j - n in
+              let is : n + q ≡ j = omega arith in
+              let place : at + j ≡ at + n + q = omega arith in
+              ap (byte_at s₂.memory) place ∙ two.there q (omega arith) ∙ same q (omega arith) ∙ ap (λ m. get_or bs m 0) is
+        ];
+        elsewhere = λ to out. elim out [
+          | inl low ↦ two.elsewhere to (inl (omega arith)) ∙ one.elsewhere to (inl low)
+          | inr high ↦ two.elsewhere to (inr (omega arith)) ∙ one.elsewhere to (inr (omega arith))
+        ];
+      }
 
-  pub byte-refused : {fault : Fault} {r : Result (Unit {0}) ours.Fault} → r ≡ Err (Nested fault) → Performs al s₁ (store grant ((index + i) * w + j) v) (refused fault) s₂ →
+  module _ {A : Type 0} (al : Ghosts A) (s s₁ s₂ : Session A) (grant at o : ℕ) (sofar : Stored al s grant at o bs n s₁) where
+    place-is : at + (o + n) ≡ at + o + n
+    place-is = omega arith
+
+    pub stored-after : Stored al s₁ grant at (o + n) cs most s₂ → Stored al s grant at o bs (n + most) s₂
+    stored-after more =
+        record {
+          run = subst (λ (es : List Event). Run al s es s₂) (stores-after grant o most (omega arith)) (run-after sofar.run more.run);
+          laid = laid-after (at + o) most (omega arith) sofar.laid (subst (λ a. Laid (state al s₁) a cs most (state al s₂)) place-is more.laid);
+          regular = more.regular;
+        }
+
+    pub cut-after : (whole : ℕ) → n + most ≤ whole → StoredCut al s₁ grant at (o + n) cs most s₂ → StoredCut al s grant at o bs whole s₂
+    cut-after whole inside cut =
+        let few : cut.n ≤ most = omega (arith, cut.less) in
+        record {
+          n = n + cut.n;
+          less = omega (arith, cut.less);
+          run = subst (λ (es : List Event). Run al s es s₂)
+              (ap (λ (e : Event). e ∷ (stores_of grant (o + n) cs cut.n ++ stores_of grant o bs n)) (event-after grant o cut.n cut.less (refused (Allocator Address)))
+              ∙ ap (λ (es : List Event). event (store grant (o + (n + cut.n)) (get_or bs (n + cut.n) 0)) (refused (Allocator Address)) ∷ es) (stores-after grant o cut.n few))
+              (run-after sofar.run cut.run);
+          laid = laid-after (at + o) cut.n few sofar.laid (subst (λ a. Laid (state al s₁) a cs cut.n (state al s₂)) place-is cut.laid);
+        }
+
+-- the packings of the first elements were stored, and then that of the next
+module _ {A K : Type 0} (al : Ghosts A) (kind : kinds.Ghosts K) (exact : (x : K) → length (kind.packed x) ≡ kind.wide) (s s₁ s₂ : Session A) (grant at index i : ℕ) (xs : List K) (x : K)
+    (here : i < length xs) (is : x ≡ get_or xs i x) (room : Room al s grant at (index * kind.wide) (length xs * kind.wide))
+    (sofar : Stored al s grant at (index * kind.wide) (packings kind xs) (i * kind.wide) s₁) where
+  abbrev w : ℕ
+  w = kind.wide
+
+  inside : i * w + 1 * w ≤ length xs * w
+  inside = omega (arith, suc-mul i w, one-mul w, mul-le-mul_right w (suc-le i (length xs) here))
+
+  offset-is : (index + i) * w ≡ index * w + i * w
+  offset-is = add-mul index i w
+
+  room-next : Room al s₁ grant at ((index + i) * w) (1 * w)
+  room-next = record { regular = sofar.regular; size = room.size; held = subst (λ l. Held l grant at room.size) (sym sofar.laid.live) room.held; inside = omega (arith, offset-is, inside, room.inside) }
+
+  same-bytes : (j : ℕ) → j < 1 * w → get_or (packings kind (x ∷ [])) j 0 ≡ get_or (packings kind xs) (i * w + j) 0
+  same-bytes j less =
+      let less' : j < w = omega (arith, one-mul w) in
+      ap (λ (z : List ℕ). get_or z j 0) (append-nil (kind.packed x)) ∙ ap (λ (y : K). get_or (kind.packed y) j 0) is ∙ sym (joined-at kind.packed w exact xs i j x here less')
+
+  pub next-stored : (Room al s₁ grant at ((index + i) * w) (1 * w) → Stored al s₁ grant at ((index + i) * w) (packings kind (x ∷ [])) (1 * w) s₂) →
+      Stored al s grant at (index * w) (packings kind xs) ((i + 1) * w) s₂
+  next-stored told =
+      subst (λ m. Stored al s grant at (index * w) (packings kind xs) m s₂) (sym (add-mul i 1 w))
+      (stored-after (packings kind xs) (packings kind (x ∷ [])) (i * w) (1 * w) same-bytes al s s₁ s₂ grant at (index * w) sofar
+      (subst (λ o. Stored al s₁ grant at o (packings kind (x ∷ [])) (1 * w) s₂) offset-is (told room-next)))
+
+  pub next-cut : {fault : ours.Fault} {r : Result (Unit {0}) ours.Fault} → r ≡ Err fault →
+      (Room al s₁ grant at ((index + i) * w) (1 * w) → (fault ≡ Nested (Allocator Address)) × StoredCut al s₁ grant at ((index + i) * w) (packings kind (x ∷ [])) (1 * w) s₂) →
       Writes al s grant at (index * w) (packings kind xs) (length xs * w) r s₂
-  byte-refused {fault} failure performs =
-      stored-cut al s grant at (index * w) (packings kind xs) (length xs * w) room (i * w + j) v inside-all value-is s₁ s₂ sofar failure (subst (λ o. Performs al s₁ (store grant o v) (refused fault) s₂) place-is performs)
+  next-cut e told =
+      let (why, cut) = told room-next in
+      rw e (why, cut-after (packings kind xs) (packings kind (x ∷ [])) (i * w) (1 * w) same-bytes al s s₁ s₂ grant at (index * w) sofar (length xs * w) inside
+      (subst (λ o. StoredCut al s₁ grant at o (packings kind (x ∷ [])) (1 * w) s₂) offset-is cut))

@@ -35,12 +35,8 @@ pub(crate) fn write_all<K: Kind, A: Allocator>(
     requires { index + length xs.now ≤ header.now.cap }
     ensures { Room A.Allocator session.old header.now.grant.number header.now.at (index * K.Kind.wide) (length xs.now * K.Kind.wide) → Writes A.Allocator session.old header.now.grant.number header.now.at (index * K.Kind.wide) (packings K.Kind xs.now) (length xs.now * K.Kind.wide) result session.new }
 {
-    let width = K::width();
     for (i, x) in xs.iter().enumerate() {
-        let offset = (index + i) * width;
-        for j in 0..width {
-            session.store(&header.grant, offset + j, x.byte(j))?;
-        }
+        write(session, header, index + i, *x)?;
     }
     Ok(())
 }
