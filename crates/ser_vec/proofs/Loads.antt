@@ -16,7 +16,7 @@ use Rattle.session.specs.Runs.{Run, opened, visited}
 use Rattle.session.specs.declared.fault.Fault.{Fault}
 use Rattle.session.specs.declared.fault.Fault.TheVariants.{Allocator}
 use Rattle.session.specs.declared.session.Session.{Session}
-use Rattle.ser_vec.specs.Elements.{bytes_at, loads_of, Unique, Room, Loaded, Reads}
+use Rattle.ser_vec.specs.Elements.{source, loads_of, Unique, Room, Loaded, Reads}
 use Rattle.ser_vec.specs.declared.fault.Fault as ours
 use Rattle.ser_vec.specs.declared.fault.Fault.TheVariants.{Session as Nested}
 
@@ -36,7 +36,7 @@ load-refused at size unique held inside (refuses (load_untaken span' here' less 
 module _ {A K : Type 0} (al : Ghosts A) (kind : kinds.Ghosts K) (s : Session A) (grant at offset : ℕ) where
   -- the bytes of the element
   abbrev bs : List ℕ
-  bs = bytes_at (state al s).memory (at + offset) kind.wide
+  bs = source al s grant at offset kind
 
   -- the first n loads were answered, and the buffer begins with what they answered
   pub record Read (n : ℕ) (buffer : List ℕ) : Type 0 where

@@ -1,13 +1,9 @@
 -- The packings of some elements, byte by byte.
-use Rattle.std.proofs.Common.{◌≡◌, ℕ, zero, suc, ◌+◌, ◌*◌, ◌<◌, List, [], ◌∷◌, ◌++◌, length, get_or, sym, ap, ◌∙◌, suc-mul, zero-mul, arith}
+use Rattle.std.proofs.Common.{◌≡◌, ℕ, zero, suc, ◌+◌, ◌*◌, ◌<◌, List, [], ◌∷◌, ◌++◌, length, get_or, ap, ◌∙◌, suc-mul, zero-mul, arith}
 use Rattle.std.specs.List.{flat_map}
-use Rattle.std.proofs.lemmas.List.{get_or_append_left, get_or-append-add, length-append}
+use Rattle.std.proofs.lemmas.List.{get_or_append_left, get_or-append-add}
 
 module _ {K : Type 0} (packed : K → List ℕ) (w : ℕ) (exact : (x : K) → length (packed x) ≡ w) where
-  pub length-joined : (xs : List K) → length (flat_map packed xs) ≡ length xs * w
-  length-joined [] = sym (zero-mul w)
-  length-joined (x ∷ xs) = length-append (packed x) (flat_map packed xs) ∙ omega (arith, exact x, length-joined xs, suc-mul (length xs) w)
-
   pub joined-at : (xs : List K) (q r : ℕ) (d : K) → q < length xs → r < w → get_or (flat_map packed xs) (q * w + r) 0 ≡ get_or (packed (get_or xs q d)) r 0
   joined-at [] q r d less less' = absurd (omega arith)
   joined-at (x ∷ xs) zero r d less less' =

@@ -24,9 +24,6 @@ use Rattle.ser_vec.specs.declared.fault.Fault as ours
 use Rattle.ser_vec.specs.declared.fault.Fault.TheVariants.{Session as Nested}
 use Rattle.ser_vec.proofs.Packings.{joined-at}
 
-suc-le : (a b : ℕ) → a < b → suc a ≤ b
-suc-le a b h = h
-
 -- what the exit of a `?` returns
 pub failed : {T E : Type 0} {b : E} (r : Result T E) → IsErrAnd r (λ y. y ≡ b) → r ≡ Err b
 failed r told = let (y, is, same) = err_from_is_err_and r told in is ∙ ap Err same
@@ -192,7 +189,7 @@ module _ {A K : Type 0} (al : Ghosts A) (kind : kinds.Ghosts K) (exact : (x : K)
   w = kind.wide
 
   inside : i * w + 1 * w ≤ length xs * w
-  inside = omega (arith, suc-mul i w, one-mul w, mul-le-mul_right w (suc-le i (length xs) here))
+  inside = omega (arith, suc-mul i w, one-mul w, mul-le-mul_right w here)
 
   offset-is : (index + i) * w ≡ index * w + i * w
   offset-is = add-mul index i w
@@ -203,7 +200,7 @@ module _ {A K : Type 0} (al : Ghosts A) (kind : kinds.Ghosts K) (exact : (x : K)
   same-bytes : (j : ℕ) → j < 1 * w → get_or (packings kind (x ∷ [])) j 0 ≡ get_or (packings kind xs) (i * w + j) 0
   same-bytes j less =
       let less' : j < w = omega (arith, one-mul w) in
-      ap (λ (z : List ℕ). get_or z j 0) (append-nil (kind.packed x)) ∙ ap (λ (y : K). get_or (kind.packed y) j 0) is ∙ sym (joined-at kind.packed w exact xs i j x here less')
+      sym (packing-of-one kind x j refl) ∙ ap (λ (y : K). get_or (kind.packed y) j 0) is ∙ sym (joined-at kind.packed w exact xs i j x here less')
 
   pub next-stored : (Room al s₁ grant at ((index + i) * w) (1 * w) → Stored al s₁ grant at ((index + i) * w) (packings kind (x ∷ [])) (1 * w) s₂) →
       Stored al s grant at (index * w) (packings kind xs) ((i + 1) * w) s₂
@@ -217,5 +214,8 @@ module _ {A K : Type 0} (al : Ghosts A) (kind : kinds.Ghosts K) (exact : (x : K)
       Writes al s grant at (index * w) (packings kind xs) (length xs * w) r s₂
   next-cut e told =
       let (why, cut) = told room-next in
-      rw e (why, cut-after (packings kind xs) (packings kind (x ∷ [])) (i * w) (1 * w) same-bytes al s s₁ s₂ grant at (index * w) sofar (length xs * w) inside
-      (subst (λ o. StoredCut al s₁ grant at o (packings kind (x ∷ [])) (1 * w) s₂) offset-is cut))
+      rw e (
+        why,
+        cut-after (packings kind xs) (packings kind (x ∷ [])) (i * w) (1 * w) same-bytes al s s₁ s₂ grant at (index * w) sofar (length xs * w) inside
+            (subst (λ o. StoredCut al s₁ grant at o (packings kind (x ∷ [])) (1 * w) s₂) offset-is cut),
+      )

@@ -7,7 +7,7 @@ use Rattle.std.proofs.lemmas.List.FromFn.{get_or-map-range_with_len, map-range_w
 use Rattle.allocator.specs.declared.Allocator.{Ghosts}
 use Rattle.kind.specs.declared.Kind as kinds
 use Rattle.session.specs.Ledger.{Span, new_span}
-use Rattle.session.specs.Calls.{Answer, event, push, pop, done, granted, refused}
+use Rattle.session.specs.Calls.{Answer, Event, event, push, pop, done, granted, refused}
 use Rattle.session.specs.Records.{Held, NotAmong}
 use Rattle.session.specs.Steps.{State, Step, serves}
 use Rattle.session.specs.Sessions.{state, Performs}
@@ -16,7 +16,7 @@ use Rattle.session.specs.declared.fault.Fault as session
 use Rattle.session.specs.declared.grant.Grant.{Grant}
 use Rattle.session.specs.declared.session.Session.{Session}
 use Rattle.ser_vec.specs.Elements.{element_at, packings, stores_of, stores_cut, loads_of, loads_cut, source, Unique, Regular, Room, Reads, Writes}
-use Rattle.ser_vec.specs.Vectors.{Vector, new_vector, plain, resized, Lives, Tested, Rule, not_live, live, Extending, extended, extend_cut, Setting, replaced, set_cut, Getting, got, get_cut, Popping, popped, pop_cut, Closing, closed, stays, Opening, placed, unplaced, Went, Acts}
+use Rattle.ser_vec.specs.Vectors.{Vector, new_vector, plain, resized, Lives, Tested, Rule, not_live, live, Guarded, Reserving, enough, lacking, Extending, full, extended, extend_cut, Setting, replaced, set_cut, Getting, got, get_cut, Popping, popped, pop_cut, Closing, closed, stays, Opening, placed, unplaced, Went, Acts}
 use Rattle.ser_vec.specs.declared.fault.Fault.{Fault}
 use Rattle.ser_vec.specs.declared.fault.Fault.TheVariants.{Session as Nested}
 use Rattle.ser_vec.specs.declared.header.Header.{Header}
@@ -42,6 +42,19 @@ module _ {A X : Type 0} {al : Ghosts A} {w : ℕ} {Does : Rule X} {v : Vector} {
   -- a call that asks nothing of the session
   pub alone : {v' : Vector} → Lives w v (state al s) → Does v (state al s) r [] v' (state al s) → Acts al w Does v s r v' s
   alone lives does regular = record { events = []; run = opened; rule = live lives does }
+
+-- what does not fit is not appended
+refused-guarded : {K : Type 0} {kind : kinds.Ghosts K} {w : ℕ} {xs : List K} {v : Vector} {s : State} {r : Result (Unit {0}) Fault} {events : List Event} {v' : Vector} {s' : State} {fault : Fault} →
+    r ≡ Err fault → Guarded w (Reserving (length xs)) v s r events v' s' → Guarded w (Extending kind xs) v s r events v' s'
+refused-guarded e (not_live dead) = not_live dead
+refused-guarded e (live lives (enough fits)) = absurd (cc)
+refused-guarded e (live lives (lacking short)) = live lives (full short)
+
+pub unfit : {A K : Type 0} {al : Ghosts A} {kind : kinds.Ghosts K} {w : ℕ} {xs : List K} {v : Vector} {s : Session A} {r : Result (Unit {0}) Fault} {fault : Fault} →
+    Acts al w (Reserving (length xs)) v s (Err fault) v s → r ≡ Err fault → Acts al w (Extending kind xs) v s r v s
+unfit told e regular =
+    let went = told regular in
+    rw e (record { events = went.events; run = went.run; rule = refused-guarded refl went.rule })
 
 -- the answer and the vector after a call
 abbrev pub some_of : {K : Type 0} → Result K Fault → Result (Option K) Fault

@@ -1,7 +1,7 @@
 // A vector of elements of one kind, in a span that it pushed. No call asks anything of its caller.
-ghost use Rattle.std.specs.Prelude.{◌≡◌, ◌-◌, [], ◌∷◌, IfErr, Ok, Err, MatchResult, ◌==◌};
+ghost use Rattle.std.specs.Prelude.{◌≡◌, ◌-◌, ◌≤◌, [], ◌∷◌, IfOk, IfErr, Ok, Err, MatchResult, ◌==◌};
 ghost use Rattle.session.specs.Sessions.{state};
-ghost use Rattle.ser_vec.specs.Vectors.{plain, Tested, Extending, Setting, Getting, Popping, Reserving, Telling, Clearing, Closing, Acts, Opens, ended};
+ghost use Rattle.ser_vec.specs.Vectors.{plain, Lives, Tested, Extending, Setting, Getting, Popping, Reserving, Telling, Clearing, Closing, Acts, Opens, ended};
 
 use crate::element::{read, write, write_all};
 use crate::fault::Fault;
@@ -63,15 +63,6 @@ impl<K: Kind> SerVec<K> {
         }
     }
 
-    // How many more elements fit.
-    fn room(&self) -> usize
-        ensures { result ≡ (plain self.now.header).capacity - (plain self.now.header).len }
-    {
-        self.header
-            .as_ref()
-            .map_or(0, |header| header.cap - header.len)
-    }
-
     pub fn clear<A: Allocator>(&mut self, session: &Session<A>) -> Result<(), Fault>
         ensures { Acts A.Allocator K.Kind.wide Clearing (plain self.old.header) session.now result (plain self.new.header) session.now }
     {
@@ -96,10 +87,15 @@ impl<K: Kind> SerVec<K> {
         session: &Session<A>,
         additional: usize,
     ) -> Result<(), Fault>
-        ensures { Acts A.Allocator K.Kind.wide (Reserving additional) (plain self.now.header) session.now result (plain self.now.header) session.now }
+        ensures step { Acts A.Allocator K.Kind.wide (Reserving additional) (plain self.now.header) session.now result (plain self.now.header) session.now }
+        ensures room { IfOk result (λ _. Lives K.Kind.wide (plain self.now.header) (state A.Allocator session.now) × (additional ≤ (plain self.now.header).capacity - (plain self.now.header).len)) }
     {
         self.live(session)?;
-        if self.room() < additional {
+        let room = self
+            .header
+            .as_ref()
+            .map_or(0, |header| header.cap - header.len);
+        if room < additional {
             return Err(Fault::Full);
         }
         Ok(())
@@ -137,10 +133,7 @@ impl<K: Kind> SerVec<K> {
     ) -> Result<(), Fault>
         ensures { Acts A.Allocator K.Kind.wide (Extending K.Kind other.now) (plain self.old.header) session.old result (plain self.new.header) session.new }
     {
-        self.live(session)?;
-        if self.room() < other.len() {
-            return Err(Fault::Full);
-        }
+        self.reserve(session, other.len())?;
         if let Some(header) = &mut self.header {
             write_all(session, header, header.len, other)?;
             header.len += other.len();
@@ -167,10 +160,7 @@ impl<K: Kind> SerVec<K> {
     pub fn push<A: Allocator>(&mut self, session: &mut Session<A>, value: K) -> Result<(), Fault>
         ensures { Acts A.Allocator K.Kind.wide (Extending K.Kind (value ∷ [])) (plain self.old.header) session.old result (plain self.new.header) session.new }
     {
-        self.live(session)?;
-        if self.room() == 0 {
-            return Err(Fault::Full);
-        }
+        self.reserve(session, 1)?;
         if let Some(header) = &mut self.header {
             write(session, header, header.len, value)?;
             header.len += 1;
