@@ -16,16 +16,17 @@ use Rattle.session.specs.declared.fault.Fault as session
 use Rattle.session.specs.declared.grant.Grant.{Grant}
 use Rattle.session.specs.declared.session.Session.{Session}
 use Rattle.ser_vec.specs.Elements.{element_at, packings, stores_of, stores_cut, loads_of, loads_cut, source, Unique, Regular, Room, Reads, Writes}
-use Rattle.ser_vec.specs.Vectors.{Vector, new_vector, plain, resized, Lives, Tested, Rule, not_live, live, Guarded, Reserving, enough, lacking, Extending, full, extended, extend_cut, Setting, replaced, set_cut, Getting, got, get_cut, Popping, popped, pop_cut, Closing, closed, stays, Opening, placed, unplaced, Went, Acts}
+use Rattle.ser_vec.specs.Vectors.{clears, tells, absent, none, beyond, spanless, Vector, new_vector, plain, resized, Lives, Tested, Rule, not_live, live, Guarded, Reserving, enough, lacking, Extending, full, extended, extend_cut, Setting, replaced, set_cut, Getting, got, get_cut, Popping, popped, pop_cut, Closing, closed, stays, Opening, placed, unplaced, Went, Acts}
 use Rattle.ser_vec.specs.declared.fault.Fault.{Fault}
 use Rattle.ser_vec.specs.declared.fault.Fault.TheVariants.{Session as Nested}
 use Rattle.ser_vec.specs.declared.header.Header.{Header}
+use Rattle.ser_vec.proofs.Stores.{failed}
 use Rattle.ser_vec.proofs.Lists.{elements-kept, elements-extended, elements-replaced, others-kept}
 
 -- in a session where a grant is one span's, what is told of its span is all there is
 pub told-span : (spans : List Span) (grant at size : ℕ) (told : Option (ℕ × ℕ)) → Unique spans → MatchOption told (NotAmong spans grant) (λ p. Held spans grant p.0 p.1) → Held spans grant at size →
     told ≡ Some (at, size)
-told-span spans grant at size None unique none (span, here, e, ea, es) = absurd (none span here e)
+told-span spans grant at size None unique unheld (span, here, e, ea, es) = absurd (unheld span here e)
 told-span spans grant at size (Some (at', size')) unique (one, here, e, ea, es) (other, there, e', ea', es') =
     let same : one ≡ other = unique one other here there (e ∙ sym e') in
     let at_is : at' ≡ at = sym ea ∙ ap (λ (x : Span). x.at) same ∙ ea' in
@@ -55,6 +56,9 @@ pub unfit : {A K : Type 0} {al : Ghosts A} {kind : kinds.Ghosts K} {w : ℕ} {xs
 unfit told e regular =
     let went = told regular in
     rw e (record { events = went.events; run = went.run; rule = refused-guarded refl went.rule })
+
+-- the ways through a call that ask nothing of the session
+pub ruleset unasked = (failed, dead, alone, unfit, tells, clears, enough, lacking, absent, none, beyond, spanless)
 
 -- the answer and the vector after a call
 abbrev pub some_of : {K : Type 0} → Result K Fault → Result (Option K) Fault

@@ -18,6 +18,8 @@ pub struct SerVec<K> {
     kind: PhantomData<K>,
 }
 
+// By lemmas on the ways through a call that ask nothing of the session.
+#[tactic(auto, using(crate::proofs::Vectors::unasked))]
 impl<K: Kind> SerVec<K> {
     // Pushes a span for exactly so many elements. Without capacity it pushes nothing.
     pub fn with_capacity<A: Allocator>(
@@ -156,7 +158,7 @@ impl<K: Kind> SerVec<K> {
         }
     }
 
-    // Appends an element.
+    // Appends an element: not as a slice of one, since an array of K owes a bound on K's size, which no law of kinds gives.
     pub fn push<A: Allocator>(&mut self, session: &mut Session<A>, value: K) -> Result<(), Fault>
         ensures { Acts A.Allocator K.Kind.wide (Extending K.Kind (value ∷ [])) (plain self.old.header) session.old result (plain self.new.header) session.new }
     {

@@ -1,14 +1,6 @@
 -- A live vector gives its span back, or is handed back.
-use Rattle.std.proofs.Common.{refl}
-use Rattle.ser_vec.specs.Vectors.{spanless}
-use Rattle.ser_vec.proofs.Vectors.{dead, alone, closing, closing-refused}
+use Rattle.ser_vec.proofs.Vectors.{closing, closing-refused}
 use Rattle.ser_vec.proofs.vector.SerVec.close.Goals as goal
-
-pub returns-in-Err-clause-step : goal.returns-in-Err-clause-step
-returns-in-Err-clause-step g c = dead c.in-Err.ensures refl
-
-pub returns-in_default-header-clause-step : goal.returns-in_default-header-clause-step
-returns-in_default-header-clause-step g c = rw c.in_default-header.is (alone (rw c.in_default-header.is at c.in_default.ensures) (spanless refl))
 
 pub returns-in-Ok-clause-step : goal.returns-in-Ok-clause-step
 returns-in-Ok-clause-step g c =

@@ -3,11 +3,8 @@ use Rattle.std.proofs.Common.{◌≡◌, length, Ok, Err, refl, arith}
 use Rattle.std.proofs.lemmas.List.{nil_from_length}
 use Rattle.ser_vec.specs.Vectors.{nothing}
 use Rattle.ser_vec.proofs.Stores.{failed}
-use Rattle.ser_vec.proofs.Vectors.{unfit, alone, extending}
+use Rattle.ser_vec.proofs.Vectors.{alone, extending}
 use Rattle.ser_vec.proofs.vector.SerVec.extend_from_slice.Goals as goal
-
-pub returns-in_err-reserve : goal.returns-in_err-reserve
-returns-in_err-reserve g c = unfit c.in_err-reserve.ensures.step (failed _ c.from_residual.ensures.1)
 
 pub returns-in_ok-write_all : goal.returns-in_ok-write_all
 returns-in_ok-write_all g c =
