@@ -6,6 +6,7 @@ ghost use Rattle.kind.specs.Bytes.{AllBytes, PowerOfTwo};
 
 mod element;
 mod kinds;
+mod number;
 
 pub use element::{Byte, Cue, Position};
 

@@ -9,9 +9,6 @@ use Rattle.kind.specs.declared.Kind as kinds
 use Rattle.ser_vec.specs.Elements.{bytes_at, element_at, packings}
 use Rattle.ser_vec.proofs.Packings.{joined-at}
 
-suc-le : (a b : ℕ) → a < b → suc a ≤ b
-suc-le a b h = h
-
 -- lists made of the same function
 map-same : {X : Type 0} (f g : ℕ → X) (n : ℕ) → ((k : ℕ) → k < n → f k ≡ g k) → map f (range_with_len 0 n) ≡ map g (range_with_len 0 n)
 map-same f g n same =
@@ -36,7 +33,7 @@ module _ {K : Type 0} (kind : kinds.Ghosts K) (exact : (x : K) → length (kind.
       let whole : kind.packed y ≡ bytes_at m' (start + q * w) w =
       fill_by_all (λ r. byte_at m' (start + q * w + r)) (kind.packed y) w 0 (exact y)
       (λ r short.
-      let inside : q * w + r < length xs * w = omega (arith, suc-mul q w, mul-le-mul_right w (suc-le q (length xs) less)) in
+      let inside : q * w + r < length xs * w = omega (arith, suc-mul q w, mul-le-mul_right w less) in
       let place : start + (q * w + r) ≡ start + q * w + r = omega arith in
       sym (joined-at kind.packed w exact xs q r d less short) ∙ sym (there (q * w + r) inside) ∙ ap (λ a. byte_at m' a) place) in
       ap kind.unpacked (sym whole) ∙ again y
@@ -45,7 +42,7 @@ module _ {K : Type 0} (kind : kinds.Ghosts K) (exact : (x : K) → length (kind.
     pub elements-kept : ((to : ℕ) → to < at + len * w → byte_at m' to ≡ byte_at m to) → map (element_at kind m' at) (range_with_len 0 len) ≡ map (element_at kind m at) (range_with_len 0 len)
     elements-kept below =
         map-same (element_at kind m' at) (element_at kind m at) len
-        (λ k less. kept m m' at k (λ to low high. below to (omega (arith, suc-mul k w, mul-le-mul_right w (suc-le k len less)))))
+        (λ k less. kept m m' at k (λ to low high. below to (omega (arith, suc-mul k w, mul-le-mul_right w less))))
 
     pub elements-extended : (xs : List K) → ((k : ℕ) → k < length xs * w → byte_at m' (at + len * w + k) ≡ get_or (packings kind xs) k 0) →
         ((to : ℕ) → to < at + len * w → byte_at m' to ≡ byte_at m to) →
@@ -61,7 +58,7 @@ module _ {K : Type 0} (kind : kinds.Ghosts K) (exact : (x : K) → length (kind.
         get_or-map-range_with_len f' 0 (len + length xs) k k d less' (omega arith) ∙ elim (cases_lt k len) [
           | inl before ↦
               let short : k < length (map f (range_with_len 0 len)) = omega (arith, lf) in
-              kept m m' at k (λ to low high. below to (omega (arith, suc-mul k w, mul-le-mul_right w (suc-le k len before))))
+              kept m m' at k (λ to low high. below to (omega (arith, suc-mul k w, mul-le-mul_right w before)))
               ∙ sym (get_or_append_left (map f (range_with_len 0 len)) xs d k short ∙ get_or-map-range_with_len f 0 len k k d before (omega arith))
           | inr past ↦
               let q = k - len in
@@ -74,8 +71,8 @@ module _ {K : Type 0} (kind : kinds.Ghosts K) (exact : (x : K) → length (kind.
     module _ (i : ℕ) (elsewhere : (to : ℕ) → (to < at + i * w) ⊎ (at + i * w + 1 * w ≤ to) → byte_at m' to ≡ byte_at m to) where
       pub others-kept : (k : ℕ) → k < len → (k ≡ i → ⊥) → element_at kind m' at k ≡ element_at kind m at k
       others-kept k less ne = kept m m' at k (λ to low high. elsewhere to (elim (cases_lt k i) [
-        | inl before ↦ inl (omega (arith, suc-mul k w, mul-le-mul_right w (suc-le k i before)))
-        | inr past ↦ inr (omega (arith, suc-mul i w, one-mul w, mul-le-mul_right w (suc-le i k (omega arith))))
+        | inl before ↦ inl (omega (arith, suc-mul k w, mul-le-mul_right w before))
+        | inr past ↦ inr (omega (arith, suc-mul i w, one-mul w, (let more : suc i ≤ k = omega arith in mul-le-mul_right w more)))
       ]))
 
       pub elements-replaced : (x : K) → i < len → ((k : ℕ) → k < 1 * w → byte_at m' (at + i * w + k) ≡ get_or (packings kind (x ∷ [])) k 0) →

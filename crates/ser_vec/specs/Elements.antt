@@ -10,9 +10,11 @@ use Rattle.session.specs.Calls.{Event, event, load, store, done, byte, refused}
 use Rattle.session.specs.Steps.{State}
 use Rattle.session.specs.Sessions.{state}
 use Rattle.session.specs.Runs.{Run}
-use Rattle.session.specs.declared.fault.Fault.{Fault}
+use Rattle.session.specs.Records.{Held}
 use Rattle.session.specs.declared.fault.Fault.TheVariants.{Allocator}
 use Rattle.session.specs.declared.session.Session.{Session}
+use Rattle.ser_vec.specs.declared.fault.Fault.{Fault}
+use Rattle.ser_vec.specs.declared.fault.Fault.TheVariants.{Session as Nested}
 
 -- so many bytes from an address on
 abbrev pub bytes_at : Memory → ℕ → ℕ → List ℕ
@@ -60,34 +62,34 @@ module _ {A : Type 0} (allocator : Ghosts A) where
     pub sound : allocator.sound s.inner
     pub unique : Unique (state allocator s).live
 
-  -- the span is live under the grant, and has room for n bytes from the offset on
-  pub record Room (s : Session A) (grant offset n : ℕ) (span : Span) : Type 0 where
+  -- a live span has the grant and the address, and room for n bytes from the offset on
+  pub record Room (s : Session A) (grant at offset n : ℕ) : Type 0 where
     pub regular : Regular s
-    pub here : Among span (state allocator s).live
-    pub granted : span.grant ≡ grant
-    pub inside : offset + n ≤ span.size
+    pub size : ℕ
+    pub held : Held (state allocator s).live grant at size
+    pub inside : offset + n ≤ size
 
-  module _ (s : Session A) (grant : ℕ) (span : Span) (offset : ℕ) where
+  module _ (s : Session A) (grant at offset : ℕ) where
     -- the first n bytes were stored
     pub record Stored (bs : List ℕ) (n : ℕ) (s' : Session A) : Type 0 where
       pub run : Run allocator s (stores_of grant offset bs n) s'
-      pub laid : Laid (state allocator s) (span.at + offset) bs n (state allocator s')
+      pub laid : Laid (state allocator s) (at + offset) bs n (state allocator s')
       pub regular : Regular s'
 
     pub record StoredCut (bs : List ℕ) (most : ℕ) (s' : Session A) : Type 0 where
       pub n : ℕ
       pub less : n < most
       pub run : Run allocator s (stores_cut grant offset bs n) s'
-      pub laid : Laid (state allocator s) (span.at + offset) bs n (state allocator s')
+      pub laid : Laid (state allocator s) (at + offset) bs n (state allocator s')
 
     -- all bytes were stored, or a store was refused for its address
     abbrev pub Writes : List ℕ → ℕ → Result (Unit {0}) Fault → Session A → Type 0
     Writes bs n (Ok u) s' = Stored bs n s'
-    Writes bs n (Err fault) s' = (fault ≡ Allocator Address) × StoredCut bs n s'
+    Writes bs n (Err fault) s' = (fault ≡ Nested (Allocator Address)) × StoredCut bs n s'
 
     module _ {K : Type 0} (kind : kinds.Ghosts K) where
       abbrev pub source : List ℕ
-      source = bytes_at (state allocator s).memory (span.at + offset) kind.wide
+      source = bytes_at (state allocator s).memory (at + offset) kind.wide
 
       pub record LoadedCut : Type 0 where
         pub n : ℕ
@@ -99,6 +101,6 @@ module _ {A : Type 0} (allocator : Ghosts A) where
         pub run : Run allocator s (loads_of grant offset source kind.wide) s
 
   -- the element was loaded, or a load was refused for its address
-  abbrev pub Reads : {K : Type 0} → kinds.Ghosts K → Session A → ℕ → Span → ℕ → Result K Fault → Type 0
-  Reads kind s grant span offset (Ok x) = Loaded s grant span offset kind x
-  Reads kind s grant span offset (Err fault) = (fault ≡ Allocator Address) × LoadedCut s grant span offset kind
+  abbrev pub Reads : {K : Type 0} → kinds.Ghosts K → Session A → ℕ → ℕ → ℕ → Result K Fault → Type 0
+  Reads kind s grant at offset (Ok x) = Loaded s grant at offset kind x
+  Reads kind s grant at offset (Err fault) = (fault ≡ Nested (Allocator Address)) × LoadedCut s grant at offset kind

@@ -14,7 +14,7 @@ use Rattle.session.specs.declared.fault.Fault as session
 use Rattle.session.specs.declared.fault.Fault.TheVariants.{NotLive, Outside, Allocator}
 use Rattle.session.specs.declared.grant.Grant.{Grant}
 use Rattle.session.specs.declared.session.Session.{Session}
-use Rattle.ser_vec.specs.Elements.{bytes_at, element_at, packings, stores_of, stores_cut, loads_of, loads_cut, Regular}
+use Rattle.ser_vec.specs.Elements.{bytes_at, element_at, packings, stores_of, stores_cut, loads_of, loads_cut, Unique, Regular}
 use Rattle.ser_vec.specs.declared.fault.Fault.{Fault}
 use Rattle.ser_vec.specs.declared.fault.Fault.TheVariants.{Full, Session as Nested}
 use Rattle.ser_vec.specs.declared.header.Header.{Header}
@@ -29,8 +29,9 @@ pub record Vector : Type 0 where
 abbrev pub new_vector : Option Grant → ℕ → ℕ → ℕ → Vector
 new_vector grant at capacity len = record { grant = grant; at = at; capacity = capacity; len = len }
 
-abbrev pub plain : Header → Vector
-plain h = new_vector h.grant h.at h.cap h.len
+abbrev pub plain : Option Header → Vector
+plain None = new_vector None 0 0 0
+plain (Some h) = new_vector (Some h.grant) h.at h.cap h.len
 
 abbrev pub resized : Vector → ℕ → Vector
 resized v len = new_vector v.grant v.at v.capacity len
@@ -47,6 +48,11 @@ Placed live at size (Some grant) = Held live grant.number at size
 -- a vector of elements so wide has its span live in the session
 abbrev pub Lives : ℕ → Vector → State → Type 0
 Lives wide v s = Placed s.live v.at (v.capacity * wide) v.grant
+
+-- what the test of a vector's span tells
+abbrev pub Tested : ℕ → Vector → State → Result (Unit {0}) Fault → Type 0
+Tested wide v s (Ok u) = Lives wide v s
+Tested wide v s (Err fault) = (fault ≡ Nested NotLive) × (Unique s.live → Lives wide v s → ⊥)
 
 -- the vector's elements, as they lie in the session's memory
 abbrev pub elements : {K : Type 0} → kinds.Ghosts K → Vector → State → List K

@@ -1,59 +1,59 @@
-// Elements as bytes of a span: stored one by one, and loaded one by one.
-ghost use Rattle.std.specs.Prelude.{◌≡◌, ℕ, ◌*◌, ◌^◌, ◌<◌, ◌≤◌, [], ◌∷◌, length};
-ghost use Rattle.session.specs.Ledger.{Span};
+// Elements as bytes of a vector's span: stored one by one, and loaded one by one.
+ghost use Rattle.std.specs.Prelude.{◌≡◌, ℕ, ◌+◌, ◌*◌, ◌<◌, ◌≤◌, [], ◌∷◌, length};
 ghost use Rattle.ser_vec.specs.Elements.{packings, Room, Writes, Reads};
 
+use crate::fault::Fault;
+use crate::header::Header;
 use allocator::Allocator;
 use kind::Kind;
-use session::{Fault, Grant, Session};
+use session::Session;
 
-// Stores the packing of an element, from that offset of the grant's span on.
+// Stores the packing of an element, at that index.
 pub(crate) fn write<K: Kind, A: Allocator>(
     session: &mut Session<A>,
-    grant: &Grant,
-    offset: usize,
+    header: &Header,
+    index: usize,
     x: K,
 ) -> Result<(), Fault>
-    requires { offset < 2 ^ 32 }
-    ensures { (span : Span) → Room A.Allocator session.old grant.now.number offset (1 * K.Kind.wide) span → Writes A.Allocator session.old grant.now.number span offset (packings K.Kind (x ∷ [])) (1 * K.Kind.wide) result session.new }
+    requires { index < header.now.cap }
+    ensures { Room A.Allocator session.old header.now.grant.number header.now.at (index * K.Kind.wide) (1 * K.Kind.wide) → Writes A.Allocator session.old header.now.grant.number header.now.at (index * K.Kind.wide) (packings K.Kind (x ∷ [])) (1 * K.Kind.wide) result session.new }
 {
-    let width = K::width();
-    for i in 0..width {
-        session.store(grant, offset + i, x.byte(i))?;
+    let offset = index * K::width();
+    for j in 0..K::width() {
+        session.store(&header.grant, offset + j, x.byte(j))?;
     }
     Ok(())
 }
 
-// Stores the packings of the elements, one after the other, from that offset of the grant's span on.
+// Stores the packings of the elements, one after the other, from that index on.
 pub(crate) fn write_all<K: Kind, A: Allocator>(
     session: &mut Session<A>,
-    grant: &Grant,
-    offset: usize,
+    header: &Header,
+    index: usize,
     xs: &[K],
 ) -> Result<(), Fault>
-    requires { (offset < 2 ^ 32) × (length xs.now ≤ 16777216) }
-    ensures { (span : Span) → Room A.Allocator session.old grant.now.number offset (length xs.now * K.Kind.wide) span → Writes A.Allocator session.old grant.now.number span offset (packings K.Kind xs.now) (length xs.now * K.Kind.wide) result session.new }
+    requires { index + length xs.now ≤ header.now.cap }
+    ensures { Room A.Allocator session.old header.now.grant.number header.now.at (index * K.Kind.wide) (length xs.now * K.Kind.wide) → Writes A.Allocator session.old header.now.grant.number header.now.at (index * K.Kind.wide) (packings K.Kind xs.now) (length xs.now * K.Kind.wide) result session.new }
 {
-    let width = K::width();
-    for i in 0..xs.len() * width {
-        session.store(grant, offset + i, xs[i / width].byte(i % width))?;
+    for (i, x) in xs.iter().enumerate() {
+        write(session, header, index + i, *x)?;
     }
     Ok(())
 }
 
-// Loads the bytes of an element and unpacks them.
+// Loads the bytes of the element at that index and unpacks them.
 pub(crate) fn read<K: Kind, A: Allocator>(
     session: &Session<A>,
-    grant: &Grant,
-    offset: usize,
+    header: &Header,
+    index: usize,
 ) -> Result<K, Fault>
-    requires { offset < 2 ^ 32 }
-    ensures { (span : Span) → Room A.Allocator session.now grant.now.number offset K.Kind.wide span → Reads A.Allocator K.Kind session.now grant.now.number span offset result }
+    requires { index < header.now.cap }
+    ensures { Room A.Allocator session.now header.now.grant.number header.now.at (index * K.Kind.wide) K.Kind.wide → Reads A.Allocator K.Kind session.now header.now.grant.number header.now.at (index * K.Kind.wide) result }
 {
-    let width = K::width();
+    let offset = index * K::width();
     let mut bytes = [0u8; 64];
-    for i in 0..width {
-        bytes[i] = session.load(grant, offset + i)?;
+    for (j, byte) in bytes[..K::width()].iter_mut().enumerate() {
+        *byte = session.load(&header.grant, offset + j)?;
     }
     Ok(K::unpack(&bytes))
 }

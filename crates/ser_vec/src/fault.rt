@@ -3,7 +3,7 @@ ghost use Rattle.std.specs.Prelude.{◌≡◌};
 ghost use Rattle.ser_vec.specs.Faults.{refusal};
 ghost use Rattle.ser_vec.specs.declared.fault.Fault.TheVariants.{Session};
 
-#[derive(Clone, Copy)]
+#[derive(Clone, Copy, Debug, PartialEq, Eq)]
 pub enum Fault {
     // the capacity left is less than what is wanted
     Full,

@@ -1,16 +1,15 @@
-// What a vector has on record of its span.
-ghost use Rattle.std.specs.Prelude.{◌≡◌, ◌≤◌, is_some, nat_lt};
+// What a vector with capacity has on record of its span.
+ghost use Rattle.std.specs.Prelude.{◌<◌, ◌≤◌};
 
 use session::Grant;
 
 #[derive(Drop)]
 pub struct Header {
-    // none where the capacity is 0
-    pub(crate) grant: Option<Grant>,
+    pub(crate) grant: Grant,
     pub(crate) at: usize,
     pub(crate) cap: usize,
     pub(crate) len: usize,
-    ghost fits: { len ≤ cap },
+    ghost some: { 0 < cap },
     ghost small: { cap ≤ 16777216 },
-    ghost placed: { is_some grant ≡ nat_lt 0 cap },
+    ghost fits: { len ≤ cap },
 }

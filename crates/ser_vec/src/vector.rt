@@ -1,8 +1,7 @@
 // A vector of elements of one kind, in a span that it pushed. No call asks anything of its caller.
-ghost use Rattle.std.specs.Prelude.{◌≡◌, ℕ, ◌*◌, ◌≤◌, true, false, [], ◌∷◌, IfErr, Ok, Err, MatchResult, ◌==◌};
+ghost use Rattle.std.specs.Prelude.{◌≡◌, ◌-◌, ◌≤◌, [], ◌∷◌, IfOk, IfErr, Ok, Err, MatchResult, ◌==◌};
 ghost use Rattle.session.specs.Sessions.{state};
-ghost use Rattle.ser_vec.specs.Elements.{Unique};
-ghost use Rattle.ser_vec.specs.Vectors.{plain, Placed, Extending, Setting, Getting, Popping, Reserving, Telling, Clearing, Closing, Acts, Opens, ended};
+ghost use Rattle.ser_vec.specs.Vectors.{plain, Lives, Tested, Extending, Setting, Getting, Popping, Reserving, Telling, Clearing, Closing, Acts, Opens, ended};
 
 use crate::element::{read, write, write_all};
 use crate::fault::Fault;
@@ -14,25 +13,13 @@ use std::marker::PhantomData;
 
 #[derive(Drop)]
 pub struct SerVec<K> {
-    pub(crate) header: Header,
+    // none without capacity
+    pub(crate) header: Option<Header>,
     kind: PhantomData<K>,
 }
 
-// Does the session have the header's span on record, of elements so wide.
-pub(crate) fn is_live<A: Allocator>(header: &Header, width: usize, session: &Session<A>) -> bool
-    requires { width ≤ 64 }
-    ensures yes { result ≡ true → Placed (state A.Allocator session.now).live header.now.at (header.now.cap * width) header.now.grant }
-    ensures no { Unique (state A.Allocator session.now).live → result ≡ false → Placed (state A.Allocator session.now).live header.now.at (header.now.cap * width) header.now.grant → ⊥ }
-{
-    match &header.grant {
-        None => true,
-        Some(grant) => match session.span_of(grant) {
-            None => false,
-            Some((at, size)) => at == header.at && size == header.cap * width,
-        },
-    }
-}
-
+// By lemmas on the ways through a call that ask nothing of the session.
+#[tactic(auto, using(crate::proofs::Vectors::unasked))]
 impl<K: Kind> SerVec<K> {
     // Pushes a span for exactly so many elements. Without capacity it pushes nothing.
     pub fn with_capacity<A: Allocator>(
@@ -43,12 +30,7 @@ impl<K: Kind> SerVec<K> {
     {
         if cap == 0 {
             return Ok(SerVec {
-                header: Header {
-                    grant: None,
-                    at: 0,
-                    cap: 0,
-                    len: 0,
-                },
+                header: None,
                 kind: PhantomData,
             });
         }
@@ -58,34 +40,47 @@ impl<K: Kind> SerVec<K> {
         }
         let (grant, at) = session.push(cap * width, K::align())?;
         Ok(SerVec {
-            header: Header {
-                grant: Some(grant),
+            header: Some(Header {
+                grant,
                 at,
                 cap,
                 len: 0,
-            },
+            }),
             kind: PhantomData,
         })
+    }
+
+    // Refused unless the session has the vector's span on record. Without capacity there is none to have.
+    fn live<A: Allocator>(&self, session: &Session<A>) -> Result<(), Fault>
+        ensures { Tested K.Kind.wide (plain self.now.header) (state A.Allocator session.now) result }
+    {
+        let Some(header) = &self.header else {
+            return Ok(());
+        };
+        let span = (header.at, header.cap * K::width());
+        if session.span_of(&header.grant) == Some(span) {
+            Ok(())
+        } else {
+            Err(Fault::Session(session::Fault::NotLive))
+        }
     }
 
     pub fn clear<A: Allocator>(&mut self, session: &Session<A>) -> Result<(), Fault>
         ensures { Acts A.Allocator K.Kind.wide Clearing (plain self.old.header) session.now result (plain self.new.header) session.now }
     {
-        if !is_live(&self.header, K::width(), session) {
-            return Err(Fault::Session(session::Fault::NotLive));
+        self.live(session)?;
+        if let Some(header) = &mut self.header {
+            header.len = 0;
         }
-        self.header.len = 0;
         Ok(())
     }
 
     // How many elements the vector can hold.
     pub fn capacity<A: Allocator>(&self, session: &Session<A>) -> Result<usize, Fault>
-        ensures { Acts A.Allocator K.Kind.wide (Telling self.now.header.cap) (plain self.now.header) session.now result (plain self.now.header) session.now }
+        ensures { Acts A.Allocator K.Kind.wide (Telling (plain self.now.header).capacity) (plain self.now.header) session.now result (plain self.now.header) session.now }
     {
-        if !is_live(&self.header, K::width(), session) {
-            return Err(Fault::Session(session::Fault::NotLive));
-        }
-        Ok(self.header.cap)
+        self.live(session)?;
+        Ok(self.header.as_ref().map_or(0, |header| header.cap))
     }
 
     // Refused unless so many more elements fit.
@@ -94,12 +89,15 @@ impl<K: Kind> SerVec<K> {
         session: &Session<A>,
         additional: usize,
     ) -> Result<(), Fault>
-        ensures { Acts A.Allocator K.Kind.wide (Reserving additional) (plain self.now.header) session.now result (plain self.now.header) session.now }
+        ensures step { Acts A.Allocator K.Kind.wide (Reserving additional) (plain self.now.header) session.now result (plain self.now.header) session.now }
+        ensures room { IfOk result (λ _. Lives K.Kind.wide (plain self.now.header) (state A.Allocator session.now) × (additional ≤ (plain self.now.header).capacity - (plain self.now.header).len)) }
     {
-        if !is_live(&self.header, K::width(), session) {
-            return Err(Fault::Session(session::Fault::NotLive));
-        }
-        if self.header.cap - self.header.len < additional {
+        self.live(session)?;
+        let room = self
+            .header
+            .as_ref()
+            .map_or(0, |header| header.cap - header.len);
+        if room < additional {
             return Err(Fault::Full);
         }
         Ok(())
@@ -116,21 +114,17 @@ impl<K: Kind> SerVec<K> {
     }
 
     pub fn is_empty<A: Allocator>(&self, session: &Session<A>) -> Result<bool, Fault>
-        ensures { Acts A.Allocator K.Kind.wide (Telling (self.now.header.len == 0)) (plain self.now.header) session.now result (plain self.now.header) session.now }
+        ensures { Acts A.Allocator K.Kind.wide (Telling ((plain self.now.header).len == 0)) (plain self.now.header) session.now result (plain self.now.header) session.now }
     {
-        if !is_live(&self.header, K::width(), session) {
-            return Err(Fault::Session(session::Fault::NotLive));
-        }
-        Ok(self.header.len == 0)
+        self.live(session)?;
+        Ok(self.header.as_ref().is_none_or(|header| header.len == 0))
     }
 
     pub fn len<A: Allocator>(&self, session: &Session<A>) -> Result<usize, Fault>
-        ensures { Acts A.Allocator K.Kind.wide (Telling self.now.header.len) (plain self.now.header) session.now result (plain self.now.header) session.now }
+        ensures { Acts A.Allocator K.Kind.wide (Telling (plain self.now.header).len) (plain self.now.header) session.now result (plain self.now.header) session.now }
     {
-        if !is_live(&self.header, K::width(), session) {
-            return Err(Fault::Session(session::Fault::NotLive));
-        }
-        Ok(self.header.len)
+        self.live(session)?;
+        Ok(self.header.as_ref().map_or(0, |header| header.len))
     }
 
     // Appends the elements in their order.
@@ -141,18 +135,11 @@ impl<K: Kind> SerVec<K> {
     ) -> Result<(), Fault>
         ensures { Acts A.Allocator K.Kind.wide (Extending K.Kind other.now) (plain self.old.header) session.old result (plain self.new.header) session.new }
     {
-        let width = K::width();
-        if !is_live(&self.header, width, session) {
-            return Err(Fault::Session(session::Fault::NotLive));
+        self.reserve(session, other.len())?;
+        if let Some(header) = &mut self.header {
+            write_all(session, header, header.len, other)?;
+            header.len += other.len();
         }
-        if self.header.cap - self.header.len < other.len() {
-            return Err(Fault::Full);
-        }
-        match &self.header.grant {
-            None => return Ok(()),
-            Some(grant) => write_all(session, grant, self.header.len * width, other)?,
-        }
-        self.header.len += other.len();
         Ok(())
     }
 
@@ -160,54 +147,36 @@ impl<K: Kind> SerVec<K> {
     pub fn pop<A: Allocator>(&mut self, session: &Session<A>) -> Result<Option<K>, Fault>
         ensures { Acts A.Allocator K.Kind.wide (Popping K.Kind) (plain self.old.header) session.now result (plain self.new.header) session.now }
     {
-        let width = K::width();
-        if !is_live(&self.header, width, session) {
-            return Err(Fault::Session(session::Fault::NotLive));
+        self.live(session)?;
+        match &mut self.header {
+            Some(header) if header.len > 0 => {
+                let x = read(session, header, header.len - 1)?;
+                header.len -= 1;
+                Ok(Some(x))
+            }
+            _ => Ok(None),
         }
-        if self.header.len == 0 {
-            return Ok(None);
-        }
-        let last = self.header.len - 1;
-        let x = match &self.header.grant {
-            None => return Ok(None),
-            Some(grant) => read(session, grant, last * width)?,
-        };
-        self.header.len = last;
-        Ok(Some(x))
     }
 
-    // Appends an element.
+    // Appends an element: not as a slice of one, since an array of K owes a bound on K's size, which no law of kinds gives.
     pub fn push<A: Allocator>(&mut self, session: &mut Session<A>, value: K) -> Result<(), Fault>
         ensures { Acts A.Allocator K.Kind.wide (Extending K.Kind (value ∷ [])) (plain self.old.header) session.old result (plain self.new.header) session.new }
     {
-        let width = K::width();
-        if !is_live(&self.header, width, session) {
-            return Err(Fault::Session(session::Fault::NotLive));
+        self.reserve(session, 1)?;
+        if let Some(header) = &mut self.header {
+            write(session, header, header.len, value)?;
+            header.len += 1;
         }
-        if self.header.len == self.header.cap {
-            return Err(Fault::Full);
-        }
-        match &self.header.grant {
-            None => return Err(Fault::Full),
-            Some(grant) => write(session, grant, self.header.len * width, value)?,
-        }
-        self.header.len += 1;
         Ok(())
     }
 
     pub fn get<A: Allocator>(&self, session: &Session<A>, index: usize) -> Result<Option<K>, Fault>
         ensures { Acts A.Allocator K.Kind.wide (Getting K.Kind index) (plain self.now.header) session.now result (plain self.now.header) session.now }
     {
-        let width = K::width();
-        if !is_live(&self.header, width, session) {
-            return Err(Fault::Session(session::Fault::NotLive));
-        }
-        if index >= self.header.len {
-            return Ok(None);
-        }
-        match &self.header.grant {
-            None => Ok(None),
-            Some(grant) => Ok(Some(read(session, grant, index * width)?)),
+        self.live(session)?;
+        match &self.header {
+            Some(header) if index < header.len => Ok(Some(read(session, header, index)?)),
+            _ => Ok(None),
         }
     }
 
@@ -219,16 +188,10 @@ impl<K: Kind> SerVec<K> {
     ) -> Result<(), Fault>
         ensures { Acts A.Allocator K.Kind.wide (Setting K.Kind index value) (plain self.now.header) session.old result (plain self.now.header) session.new }
     {
-        let width = K::width();
-        if !is_live(&self.header, width, session) {
-            return Err(Fault::Session(session::Fault::NotLive));
-        }
-        if index >= self.header.len {
-            return Err(Fault::Session(session::Fault::Outside));
-        }
-        match &self.header.grant {
-            None => Err(Fault::Session(session::Fault::Outside)),
-            Some(grant) => Ok(write(session, grant, index * width, value)?),
+        self.live(session)?;
+        match &self.header {
+            Some(header) if index < header.len => write(session, header, index, value),
+            _ => Err(Fault::Session(session::Fault::Outside)),
         }
     }
 
@@ -237,33 +200,35 @@ impl<K: Kind> SerVec<K> {
         ensures step { Acts A.Allocator K.Kind.wide Closing (plain self.header) session.old (ended result) (plain self.header) session.new }
         ensures back { IfErr result (λ e. plain e.0.header ≡ plain self.header) }
     {
-        if !is_live(&self.header, K::width(), session) {
-            return Err((self, Fault::Session(session::Fault::NotLive)));
+        if let Err(fault) = self.live(session) {
+            return Err((self, fault));
         }
         let SerVec { header, kind } = self;
-        let Header {
-            grant,
-            at,
-            cap,
-            len,
-        } = header;
-        match grant {
-            None => Ok(()),
-            Some(grant) => match session.pop(grant) {
-                Ok(()) => Ok(()),
-                Err((grant, fault)) => Err((
-                    SerVec {
-                        header: Header {
-                            grant: Some(grant),
-                            at,
-                            cap,
-                            len,
-                        },
-                        kind,
-                    },
-                    Fault::Session(fault),
-                )),
+        let Some(
+            Header {
+                grant,
+                at,
+                cap,
+                len,
             },
+        ) = header
+        else {
+            return Ok(());
+        };
+        match session.pop(grant) {
+            Ok(()) => Ok(()),
+            Err((grant, fault)) => Err((
+                SerVec {
+                    header: Some(Header {
+                        grant,
+                        at,
+                        cap,
+                        len,
+                    }),
+                    kind,
+                },
+                Fault::Session(fault),
+            )),
         }
     }
 }

@@ -1,36 +1,24 @@
 -- Each turn stores the next byte of the packing.
-use Rattle.std.proofs.Common.{◌≡◌, ℕ, ◌*◌, ◌<◌, List, [], ◌∷◌, get_or, sym, ap, ◌∙◌, subst, one-mul, arith}
-use Rattle.std.proofs.lemmas.List.{append-nil}
-use Rattle.std.proofs.lemmas.Result.{err_from_is_err_and}
-use Rattle.ser_vec.specs.Elements.{packings, Stored}
-use Rattle.ser_vec.proofs.Stores.{stored-none, stored-more, stored-cut}
+use Rattle.std.proofs.Common.{◌*◌, ◌<◌, [], ◌∷◌, subst, one-mul, arith}
+use Rattle.ser_vec.specs.Elements.{packings, Room, Writes}
+use Rattle.ser_vec.proofs.Stores.{failed, stored-none, stored-more, stored-cut, packing-of-one}
 use Rattle.ser_vec.proofs.element.write.Goals as goal
 
-pub loop-i-init : goal.loop-i-init
-loop-i-init g c span room = stored-none g.A.Allocator _ _ span _ _ room.regular
+pub loop-j-init : goal.loop-j-init
+loop-j-init g c room = stored-none g.A.Allocator _ _ _ _ _ room.regular
+
+pub loop-j-preserved : goal.loop-j-preserved
+loop-j-preserved g c room =
+    let less : c.loop-j.j < 1 * g.K.Kind.wide = omega (arith, one-mul g.K.Kind.wide) in
+    stored-more g.A.Allocator _ _ _ _ _ _ room c.loop-j.j _ less (packing-of-one g.K.Kind c.args.x c.loop-j.j c.byte.ensures) _ _ (c.loop-j.invariant room) c.in_ok-store.ensures
 
 pub returns-in_err-store : goal.returns-in_err-store
 returns-in_err-store g c =
-    let p = err_from_is_err_and c.from_residual.result c.from_residual.ensures.1 in
-    let i = c.loop-i.i in
-    let kind = g.K.Kind in
-    let less : i < 1 * kind.wide = omega (arith, one-mul kind.wide) in
-    let value : c.byte.result ≡ get_or (packings kind (c.args.x ∷ [])) i 0 = c.byte.ensures ∙ ap (λ (z : List ℕ). get_or z i 0) (sym (append-nil (kind.packed c.args.x))) in
-    rw (p.1, p.2) (λ span room.
-    stored-cut g.A.Allocator c.args.session.now c.args.grant.now.number span c.args.offset (packings kind (c.args.x ∷ [])) (1 * kind.wide) room i c.byte.result less value
-    c.loop-i.session c.store.new.self (c.loop-i.invariant span room) c.in_err-store.ensures)
-
-pub loop-i-preserved : goal.loop-i-preserved
-loop-i-preserved g c span room =
-    let i = c.loop-i.i in
-    let kind = g.K.Kind in
-    let less : i < 1 * kind.wide = omega (arith, one-mul kind.wide) in
-    let value : c.byte.result ≡ get_or (packings kind (c.args.x ∷ [])) i 0 = c.byte.ensures ∙ ap (λ (z : List ℕ). get_or z i 0) (sym (append-nil (kind.packed c.args.x))) in
-    stored-more g.A.Allocator c.args.session.now c.args.grant.now.number span c.args.offset (packings kind (c.args.x ∷ [])) (1 * kind.wide) room i c.byte.result less value
-    c.loop-i.session c.store.new.self (c.loop-i.invariant span room) c.in_ok-store.ensures
-
-pub returns : goal.returns
-returns g c span room =
-    let kind = g.K.Kind in
-    let all : c.loop-i.i ≡ 1 * kind.wide = omega (arith, one-mul kind.wide) in
-    subst (λ n. Stored g.A.Allocator c.args.session.now c.args.grant.now.number span c.args.offset (packings kind (c.args.x ∷ [])) n c.loop-i.session) all (c.loop-i.invariant span room)
+    let h = c.args.header.now in
+    let r = c.from_residual.result in
+    let bs = packings g.K.Kind (c.args.x ∷ []) in
+    let less : c.loop-j.j < 1 * g.K.Kind.wide = omega (arith, one-mul g.K.Kind.wide) in
+    subst
+    (λ w. Room g.A.Allocator c.args.session.now h.grant.number h.at (c.args.index * w) (1 * g.K.Kind.wide) → Writes g.A.Allocator c.args.session.now h.grant.number h.at (c.args.index * w) bs (1 * g.K.Kind.wide) r c.store.new.self)
+    c.width.ensures
+    (λ room. stored-cut g.A.Allocator _ _ _ _ _ _ room c.loop-j.j _ less (packing-of-one g.K.Kind c.args.x c.loop-j.j c.byte.ensures) _ _ (c.loop-j.invariant room) (failed r c.from_residual.ensures.1) c.in_err-store.ensures)

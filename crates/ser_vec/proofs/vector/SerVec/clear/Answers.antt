@@ -1,12 +1,7 @@
--- A live vector is cleared.
-use Rattle.ser_vec.specs.Vectors.{plain, clears}
-use Rattle.ser_vec.proofs.Vectors.{dead, alone}
+-- Without capacity there is nothing to clear.
+use Rattle.ser_vec.specs.Vectors.{clears}
+use Rattle.ser_vec.proofs.Vectors.{alone}
 use Rattle.ser_vec.proofs.vector.SerVec.clear.Goals as goal
 
-pub returns-then-not-is_live : goal.returns-then-not-is_live
-returns-then-not-is_live g c =
-    dead g.A.Allocator g.K.Kind.wide _ (plain c.args.self.now.header) c.args.session.now c.width.result c.width.ensures c.is_live.result c.is_live.ensures.no c.if-not-is_live.true
-
-pub returns : goal.returns
-returns g c =
-    alone g.A.Allocator g.K.Kind.wide _ (plain c.args.self.now.header) c.args.session.now c.width.result c.width.ensures c.is_live.result c.is_live.ensures.yes c.if-not-is_live.false clears
+pub returns-in_default : goal.returns-in_default
+returns-in_default g c = rw c.in_default.is (alone (rw c.in_default.is at c.in_ok-live.ensures) clears)

@@ -1,31 +1,19 @@
 -- An element is appended to a live vector that is not full.
-use Rattle.std.proofs.Common.{◌-◌, ◌≤◌, [], ◌∷◌, arith}
-use Rattle.std.proofs.lemmas.Result.{err_from_is_err_and}
-use Rattle.ser_vec.specs.Vectors.{plain, full}
-use Rattle.ser_vec.proofs.Vectors.{dead, alone, lives-as, extending-by, extending-cut-by, offset-low}
+use Rattle.std.proofs.Common.{[], ◌∷◌, Ok, Err}
+use Rattle.ser_vec.proofs.Stores.{failed}
+use Rattle.ser_vec.proofs.Vectors.{unfit, extending}
 use Rattle.ser_vec.proofs.vector.SerVec.push.Goals as goal
 
-pub returns-then-not-is_live : goal.returns-then-not-is_live
-returns-then-not-is_live g c = dead g.A.Allocator g.K.Kind.wide _ (plain c.args.self.now.header) c.args.session.now c.width-width.result c.width-width.ensures c.is_live.result c.is_live.ensures.no c.if-not-is_live.true
+pub returns-in_err-reserve : goal.returns-in_err-reserve
+returns-in_err-reserve g c = unfit c.in_err-reserve.ensures.step (failed _ c.from_residual.ensures.1)
 
-pub returns-then-self : goal.returns-then-self
-returns-then-self g c = alone g.A.Allocator g.K.Kind.wide _ (plain c.args.self.now.header) c.args.session.now c.width-width.result c.width-width.ensures c.is_live.result c.is_live.ensures.yes c.if-not-is_live.false (full (omega arith))
+pub returns-in_ok-write : goal.returns-in_ok-write
+returns-in_ok-write g c =
+    let (lives, fits) = rw c.in-Some.is at c.in_ok-reserve.ensures.room in
+    rw c.in-Some.is (extending g.A.Allocator g.K.Kind c.in-Some.header c.args.session.now lives g.met.K.Kind.exact g.met.K.Kind.again c.write.new.session (c.args.value ∷ []) fits (Ok tt) c.in_ok-write.ensures)
 
-pub write-requires : goal.write-requires
-write-requires g c =
-    let h = c.args.self.now.header in
-    let n = g.met.K.Kind.narrow in
-    offset-low c.args.self.now.header.len c.width-width.result (omega (arith, h.fits, h.small)) (omega (arith, n.1, c.width-width.ensures))
-
-pub returns-in_err-write-in-Some : goal.returns-in_err-write-in-Some
-returns-in_err-write-in-Some g c =
-    let p = err_from_is_err_and c.from_residual.result c.from_residual.ensures.1 in
-    let h = c.args.self.now.header in
-    let room : 1 ≤ h.cap - h.len = omega (arith, h.fits) in
-    rw (p.1, p.2) (extending-cut-by g.A.Allocator g.K.Kind (plain c.args.self.now.header) c.args.session.now c.in-Some.grant c.in-Some.is (lives-as g.A.Allocator g.K.Kind.wide (plain c.args.self.now.header) c.args.session.now c.width-width.result c.width-width.ensures c.is_live.result c.is_live.ensures.yes c.if-not-is_live.false) g.met.K.Kind.exact g.met.K.Kind.again c.write.new.session (c.args.value ∷ []) room c.width-width.result c.width-width.ensures c.args.self.now.header.fits c.in_err-write-in-Some.ensures)
-
-pub returns : goal.returns
-returns g c =
-    let h = c.args.self.now.header in
-    let room : 1 ≤ h.cap - h.len = omega (arith, h.fits) in
-    extending-by g.A.Allocator g.K.Kind (plain c.args.self.now.header) c.args.session.now c.in-Some.grant c.in-Some.is (lives-as g.A.Allocator g.K.Kind.wide (plain c.args.self.now.header) c.args.session.now c.width-width.result c.width-width.ensures c.is_live.result c.is_live.ensures.yes c.if-not-is_live.false) g.met.K.Kind.exact g.met.K.Kind.again c.write.new.session (c.args.value ∷ []) room c.width-width.result c.width-width.ensures c.args.self.now.header.fits c.in_ok-write-in-Some.ensures
+pub returns-in_err-write : goal.returns-in_err-write
+returns-in_err-write g c =
+    let (lives, fits) = rw c.in-Some.is at c.in_ok-reserve.ensures.room in
+    rw (c.in-Some.is, failed _ c.from_residual-in_err-write.ensures.1)
+    (extending g.A.Allocator g.K.Kind c.in-Some.header c.args.session.now lives g.met.K.Kind.exact g.met.K.Kind.again c.write.new.session (c.args.value ∷ []) fits (Err c.in_err-write.field-0.0) c.in_err-write.ensures)

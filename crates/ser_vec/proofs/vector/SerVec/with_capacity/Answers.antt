@@ -1,8 +1,8 @@
 -- A vector is opened by a push, or refused before it.
 use Rattle.std.proofs.Common.{◌*◌, ◌<◌, ◌≤◌, [], subst, div-lt_iff_lt-mul, le-div_iff_mul-le, arith}
-use Rattle.std.proofs.lemmas.Result.{err_from_is_err_and}
 use Rattle.session.specs.Runs.{opened}
 use Rattle.ser_vec.specs.Vectors.{bare, too_large}
+use Rattle.ser_vec.proofs.Stores.{failed}
 use Rattle.ser_vec.proofs.Vectors.{opening, opening-refused}
 use Rattle.ser_vec.proofs.vector.SerVec.with_capacity.Goals as goal
 
@@ -17,10 +17,9 @@ returns-then-cap-width g c regular =
 
 pub returns-in_err-grant : goal.returns-in_err-grant
 returns-in_err-grant g c =
-    let p = err_from_is_err_and c.from_residual.result c.from_residual.ensures.1 in
     let some : 0 < c.width-width.result = omega (arith, g.met.K.Kind.narrow.0, c.width-width.ensures) in
     let less : c.args.cap * c.width-width.result ≤ 16777216 = (le-div_iff_mul-le some).0 c.if-cap-width.false in
-    rw (p.1, p.2)
+    rw (failed _ c.from_residual.ensures.1)
     (opening-refused g.A.Allocator g.K.Kind c.args.cap c.args.session.now c.push.new.self c.width-width.result c.align.result c.width-width.ensures c.align.ensures
     (omega arith) less c.in_err-grant.field-0.0 c.in_err-grant.ensures)
 
