@@ -42,12 +42,7 @@ impl Region {
     pub fn into_bytes(self) -> Vec<u8>
         ensures { result ≡ self.bytes }
     {
-        let Region {
-            bytes,
-            slots: _,
-            requests: _,
-            last: _,
-        } = self;
+        let Region { bytes, .. } = self;
         bytes
     }
 
