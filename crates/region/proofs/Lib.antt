@@ -1,4 +1,3 @@
-mod Searches
-mod Removals
+mod Chains
 mod Windows
 mod Calls

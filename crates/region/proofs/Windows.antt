@@ -1,18 +1,13 @@
 -- The blocks of a region are windows of its buffer.
-use Rattle.std.proofs.Common.{◌≡◌, ℕ, zero, suc, ◌+◌, ◌-◌, ◌<◌, ◌≤◌, Bool, true, cond, ◌||◌, eqb, List, [], ◌∷◌, length, get_or, take, drop, set, sym, refl, ap, ◌∙◌, inl, inr, arith}
+use Rattle.std.proofs.Common.{◌≡◌, ℕ, ◌+◌, ◌-◌, ◌≤◌, Bool, true, cond, ◌||◌, eqb, List, [], ◌∷◌, length, get_or, take, drop, set, sym, refl, ap, ◌∙◌, inl, inr, arith}
 use Rattle.std.proofs.lemmas.List.{take-set-le, drop-set-lt, drop-set-add, get_or-take, get_or-drop}
+use Rattle.std.proofs.Math.Seq.{take-set-lt}
 use Rattle.std.proofs.lemmas.Bool.{cases_lt, cases_Bool, true≢false}
 use Rattle.allocator.specs.Memory.{spans}
 use Rattle.allocator.proofs.Spans.{spans-true, spans-from, spans-before, spans-past}
 use Rattle.source.specs.Blocks.{Outstanding, Place, places, without, starts, byte_at, stored}
 use Rattle.region.specs.Places.{covers, begins, leaving, keeps}
 use Rattle.region.specs.Regions.{usable, cut_out, cuts_out, parts, cut-length}
-
-take-set-lt : (n : ℕ) (l : List ℕ) (i v : ℕ) → i < n → take n (set l i v) ≡ set (take n l) i v
-take-set-lt zero l i v h = absurd (omega arith)
-take-set-lt (suc n) [] i v h = refl
-take-set-lt (suc n) (x ∷ xs) zero v h = refl
-take-set-lt (suc n) (x ∷ xs) (suc i) v h = ap (λ (r : List ℕ). x ∷ r) (take-set-lt n xs i v (omega arith))
 
 -- a byte that is written to a buffer, seen through a window of it
 window-set : (n k : ℕ) (l : List ℕ) (i v : ℕ) → take n (drop k (set l i v)) ≡ cond (spans k n i) (set (take n (drop k l)) (i - k) v) (take n (drop k l))

@@ -1,34 +1,28 @@
 -- Where the blocks of a region lie in its buffer, and where there is room for one more.
-use Rattle.std.specs.Prelude.{◌≡◌, ℕ, zero, suc, ◌+◌, ◌*◌, ◌%◌, ◌<◌, ◌≤◌, Bool, true, false, cond, ◌&&◌, ◌||◌, List, [], ◌∷◌, Some, None, Option, ◌==◌, nat_le, nat_lt, slice_index_or}
+use Rattle.std.specs.Prelude.{◌≡◌, ℕ, ◌+◌, ◌*◌, ◌%◌, ◌<◌, ◌≤◌, Bool, true, not, ◌&&◌, ◌||◌, List, [], ◌∷◌, map, reverse, filter, Some, None, Option, ◌==◌, nat_le, nat_lt}
+use Rattle.std.specs.List.{list_any, list_all}
 use Rattle.allocator.specs.Memory.{spans}
 use Rattle.source.specs.Blocks.{Place}
 use Rattle.region.specs.declared.slot.Slot.{Slot}
 
-abbrev pub nth : List Slot → ℕ → Slot
-nth slots i = slice_index_or slots i (record { base = 0; size = 0 })
-
 abbrev pub place : Slot → Place
 place s = record { base = s.base; size = s.size }
 
--- the places of the first n slots, the newest first
-abbrev pub chain : List Slot → ℕ → List Place
-chain slots zero = []
-chain slots (suc n) = place (nth slots n) ∷ chain slots n
+-- the places of the slots, the last first
+abbrev pub chain : List Slot → List Place
+chain slots = reverse (map place slots)
 
 -- is the address in one of the places
 abbrev pub covers : List Place → ℕ → Bool
-covers [] at = false
-covers (p ∷ ps) at = spans p.base p.size at || covers ps at
+covers ps at = list_any (λ p. spans p.base p.size at) ps
 
 -- does one of them start at the address
 abbrev pub begins : List Place → ℕ → Bool
-begins [] at = false
-begins (p ∷ ps) at = p.base == at || begins ps at
+begins ps at = list_any (λ p. p.base == at) ps
 
 -- the places but for the one that starts at the address
 abbrev pub leaving : List Place → ℕ → List Place
-leaving [] at = []
-leaving (p ∷ ps) at = cond (p.base == at) (leaving ps at) (p ∷ leaving ps at)
+leaving ps at = filter (λ p. not (p.base == at)) ps
 
 -- one of the two ends before the other starts
 abbrev pub apart : Place → Place → Bool
@@ -36,8 +30,7 @@ apart p q = nat_le (p.base + p.size) q.base || nat_le (q.base + q.size) p.base
 
 -- the place overlaps none of those
 abbrev pub free : List Place → Place → Bool
-free [] q = true
-free (p ∷ ps) q = apart p q && free ps q
+free ps q = list_all (λ p. apart p q) ps
 
 -- a block lies inside a buffer of that length, at a multiple of 8
 abbrev pub stands : ℕ → Place → Bool

@@ -1,12 +1,12 @@
 -- What a region stands for, which requests it grants, and that its blocks are lawful.
-use Rattle.std.specs.Prelude.{◌≡◌, ℕ, ◌+◌, ◌-◌, ◌%◌, ◌<◌, ◌≤◌, min, true, false, cond, ◌&&◌, List, [], ◌∷◌, length, take, drop, Some, None, Ok, Err, Result, ◌==◌, nat_le, nat_lt, slice_set, refl}
+use Rattle.std.specs.Prelude.{◌≡◌, ℕ, ◌+◌, ◌-◌, ◌%◌, ◌<◌, ◌≤◌, min, true, false, cond, ◌&&◌, List, [], ◌∷◌, length, take, drop, Some, None, Option, Ok, Err, Result, ◌==◌, nat_le, nat_lt, slice_set, refl}
 use Rattle.std.proofs.Common.{◌∙◌, inl, inr, arith, length-take, length-drop}
 use Rattle.std.proofs.lemmas.Bool.{and_parts, or_cases, leb-true, ltb-true, eqb-true, lt-leb, le-ltb, and_left, and_right, or_from}
 use Rattle.allocator.specs.Memory.{spans}
 use Rattle.source.specs.Answers.{sized}
 use Rattle.source.specs.Blocks.{Source, Outstanding, Place, Lawful, places, within}
 use Rattle.source.specs.declared.fault.SourceFault.{SourceFault}
-use Rattle.source.specs.declared.outcome.Outcome.{Outcome}
+use Rattle.source.specs.declared.request.Request.{Request}
 use Rattle.region.specs.Places.{chain, covers, apart, free, stands, keeps, Lowest}
 use Rattle.region.specs.declared.slot.Slot.{Slot}
 
@@ -22,8 +22,11 @@ abbrev pub cuts_out : List ℕ → List Place → List Outstanding
 cuts_out bytes [] = []
 cuts_out bytes (p ∷ ps) = cut_out bytes p ∷ cuts_out bytes ps
 
-abbrev pub region : List ℕ → List Slot → ℕ → ℕ → ℕ → Outcome → Source
-region bytes slots count requests last outcome = record { blocks = cuts_out bytes (chain slots count); requests = requests; last = last; outcome = outcome }
+abbrev pub blocks : List ℕ → List Slot → List Outstanding
+blocks bytes slots = cuts_out bytes (chain slots)
+
+abbrev pub region : List ℕ → List Slot → ℕ → Option Request → Source
+region bytes slots requests last = record { blocks = blocks bytes slots; requests = requests; last = last }
 
 -- A request is granted at the lowest place that serves. It is refused where none does, and where 32 blocks are out.
 abbrev pub Answers : ℕ → List Place → ℕ → Result ℕ SourceFault → Type 0
@@ -94,7 +97,7 @@ module _ (bytes : List ℕ) where
       let l = cut-length p a.stands in
       rw (l, within-cuts ps at a.older)
 
-  lawful-cuts : (ps : List Place) → keeps (usable (length bytes)) ps ≡ true → Lawful (cuts_out bytes ps)
+  pub lawful-cuts : (ps : List Place) → keeps (usable (length bytes)) ps ≡ true → Lawful (cuts_out bytes ps)
   lawful-cuts [] k = tt
   lawful-cuts (p ∷ ps) k =
       let a = parts (usable (length bytes)) p ps k in
@@ -104,6 +107,3 @@ module _ (bytes : List ℕ) where
         (λ at in'. within-cuts ps at a.older ∙ clear p ps a.free at (rw l at in')),
         lawful-cuts ps a.older,
       )
-
-  pub region-lawful : (slots : List Slot) (count : ℕ) → keeps (usable (length bytes)) (chain slots count) ≡ true → Lawful (cuts_out bytes (chain slots count))
-  region-lawful slots count = lawful-cuts (chain slots count)

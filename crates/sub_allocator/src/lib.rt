@@ -1,9 +1,10 @@
 // An allocator that sub-allocates a fixed-size memory space.
 #![tactic(auto)]
 
-ghost use Rattle.std.specs.Prelude.{◌≡◌, ℕ, ◌<◌, min, [], IfSome};
-ghost use Rattle.allocator.specs.Memory.{Memory};
-ghost use Rattle.sub_allocator.specs.Buffers.{based, room, fixed, fixed-lawful, place_in, stored_in, Alone};
+ghost use Rattle.std.specs.Prelude.{◌≡◌, ℕ, ◌+◌, ◌<◌, ◌≤◌, false, [], IfOk, IfErr};
+ghost use Rattle.allocator.specs.Memory.{Memory, taken};
+ghost use Rattle.allocator.specs.declared.fault.Fault.TheVariants.{Address};
+ghost use Rattle.sub_allocator.specs.Buffers.{based, room, fixed, fixed-lawful, stored_in, Alone};
 
 use allocator::{Allocator, Cause, Fault, Layout};
 
@@ -11,12 +12,14 @@ mod figures;
 
 pub use figures::buffer_figures;
 
-// The caller's buffer as one block. A struct that holds a `&mut` has no invariant here, so each call brings the three fields into their limits.
+// The caller's buffer as one block, of its first 2^47 bytes at most.
 #[derive(Drop)]
 pub struct SubAllocator<'a> {
     bytes: &'a mut [u8],
     base: usize,
     used: usize,
+    ghost low: { base < 140737488355328 },
+    ghost inside: { used ≤ room bytes.now },
 }
 
 impl<'a> SubAllocator<'a> {
@@ -31,24 +34,17 @@ impl<'a> SubAllocator<'a> {
         }
     }
 
-    // The bytes of the buffer have the addresses from `base` on.
+    // The bytes of the buffer have the addresses from `base` on, which is taken modulo 2^47.
     pub fn new(bytes: &'a mut [u8], base: usize) -> SubAllocator<'a>
-        ensures blocks { fixed result.base result.used result.bytes.now ≡ fixed base 0 bytes.old }
+        ensures blocks { fixed result.base result.used result.bytes.now ≡ fixed (based base) 0 bytes.old }
         ensures bytes { result.bytes.now ≡ bytes.old }
         ensures lent { result.bytes.ghost_name ≡ bytes.entry.ghost_name }
     {
         SubAllocator {
             bytes,
-            base,
+            base: base % 140737488355328,
             used: 0,
         }
-    }
-
-    fn base(&self) -> usize
-        ensures value { result ≡ based self.now.base }
-        ensures bound { result < 140737488355328 }
-    {
-        self.base % 140737488355328
     }
 
     fn room(&self) -> usize
@@ -57,29 +53,22 @@ impl<'a> SubAllocator<'a> {
         self.bytes.len().min(140737488355328)
     }
 
-    fn mark(&self) -> usize
-        ensures { result ≡ min self.now.used (room self.now.bytes.now) }
-    {
-        self.used.min(self.room())
-    }
-
     // Where in the buffer the byte of a taken address is.
-    fn place(&self, at: usize) -> Option<usize>
-        ensures value { result ≡ place_in self.now.base self.now.used self.now.bytes.now at }
-        ensures bound { IfSome result (λ i. i < room self.now.bytes.now) }
+    fn place(&self, at: usize) -> Result<usize, Fault>
+        ensures found { IfOk result (λ i. (at ≡ self.now.base + i) × (i < self.now.used)) }
+        ensures lost { IfErr result (λ fault. (fault ≡ Address) × (taken (fixed self.now.base self.now.used self.now.bytes.now) at ≡ false)) }
     {
-        let base = self.base();
-        if at < base || at - base >= self.mark() {
-            return None;
+        if at < self.base || at - self.base >= self.used {
+            return Err(Fault::Address);
         }
-        Some(at - base)
+        Ok(at - self.base)
     }
 }
 
 impl<'a> Allocator for SubAllocator<'a> {
     ghost blocks = { λ s. fixed s.base s.used s.bytes.now };
 
-    ghost lawful = { λ s. fixed-lawful s.base s.used s.bytes.now };
+    ghost lawful = { λ s. fixed-lawful s.base s.used s.bytes.now s.low s.inside };
 
     // It has no further block. The buffer behind it stays the caller's, and only stores change it.
     ghost pushes = { λ s size align r t. Alone (fixed s.base s.used s.bytes.now) size align r × (t.bytes.now ≡ s.bytes.now) × (t.bytes.ghost_name ≡ s.bytes.ghost_name) };
@@ -89,36 +78,29 @@ impl<'a> Allocator for SubAllocator<'a> {
     ghost stores = { λ s at byte r t. (t.bytes.now ≡ stored_in s.base s.used s.bytes.now at byte) × (t.bytes.ghost_name ≡ s.bytes.ghost_name) };
 
     fn push_alloc(&mut self, layout: Layout) -> Result<usize, Fault> {
-        let mark = self.mark();
-        let top = self.base() + mark;
+        let top = self.base + self.used;
         let pad = layout.align_offset(top);
         let wanted = pad + layout.size();
-        if wanted > self.room() - mark {
+        if wanted > self.room() - self.used {
             return Err(Fault::DoesNotFit(Cause::FixedBuffer));
         }
-        self.used = mark + wanted;
+        self.used += wanted;
         Ok(top + pad)
     }
 
     fn pop_alloc(&mut self, at: usize, _layout: Layout) -> Result<(), Fault> {
-        let Some(i) = self.place(at) else {
-            return Err(Fault::Address);
-        };
+        let i = self.place(at)?;
         self.used = i;
         Ok(())
     }
 
     fn load(&self, at: usize) -> Result<u8, Fault> {
-        let Some(i) = self.place(at) else {
-            return Err(Fault::Address);
-        };
+        let i = self.place(at)?;
         Ok(self.bytes[i])
     }
 
     fn store(&mut self, at: usize, byte: u8) -> Result<(), Fault> {
-        let Some(i) = self.place(at) else {
-            return Err(Fault::Address);
-        };
+        let i = self.place(at)?;
         self.bytes[i] = byte;
         Ok(())
     }

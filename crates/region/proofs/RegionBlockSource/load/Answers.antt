@@ -1,17 +1,11 @@
-use Rattle.std.proofs.Common.{◌-◌, ◌<◌, length, Ok, vec_items, refl, ap, ◌∙◌, arith}
+use Rattle.std.proofs.Common.{Ok, ap, ◌∙◌}
 use Rattle.std.proofs.lemmas.List.{get_or_default}
-use Rattle.region.proofs.Calls.{loads, unloaded}
+use Rattle.region.specs.Places.{chain}
+use Rattle.region.proofs.Calls.{loads}
 use Rattle.region.proofs.RegionBlockSource.load.Goals as goal
 
-pub returns-then-not-outstanding : goal.returns-then-not-outstanding
-returns-then-not-outstanding c u =
-    let r = c.args.self.now in
-    unloaded (vec_items r.bytes) r.slots r.count r.requests r.last r.outcome r.apart c.args.at (cc c.outstanding.ensures.answer)
-
 pub returns : goal.returns
-returns c u =
+returns c =
     let r = c.args.self.now in
-    let load = loads (vec_items r.bytes) r.slots r.count r.requests r.last r.outcome r.apart c.args.at (cc c.outstanding.ensures.answer) in
-    let bounds = c.if-not-outstanding.ensures.bounds refl in
-    let inside : c.args.at - 4096 < length (vec_items c.args.self.now.bytes) = (let e = c.len-len.ensures in omega arith) in
-    ap Ok (c.index.ensures ∙ get_or_default (vec_items r.bytes) (c.args.at - 4096) _ 0 inside) ∙ load
+    let found = c.in_ok-i.ensures.found in
+    ap Ok (c.index.ensures ∙ get_or_default r.bytes.items c.in_ok-i.i _ 0 found.1) ∙ rw found.0 (loads r.bytes.items (chain r.slots.items) r.requests r.last r.apart c.in_ok-i.i (rw found.0 at found.2))

@@ -1,22 +1,9 @@
-use Rattle.std.proofs.Common.{vec_items, refl}
-use Rattle.region.proofs.Calls.{stores, unstored, stored-is, unstored-is}
+use Rattle.region.specs.Places.{chain}
+use Rattle.region.proofs.Calls.{stores}
 use Rattle.region.proofs.RegionBlockSource.store.Goals as goal
 
-pub returns-then-not-outstanding : goal.returns-then-not-outstanding
-returns-then-not-outstanding c =
+pub returns-clause-rule : goal.returns-clause-rule
+returns-clause-rule c =
     let r = c.args.self.now in
-    record {
-      kept = λ u. u;
-      own = λ u. unstored-is (vec_items r.bytes) r.slots r.count r.requests r.last r.outcome r.apart c.args.at (cc c.outstanding.ensures.answer) c.args.byte;
-      rule = λ u. unstored (vec_items r.bytes) r.slots r.count r.requests r.last r.outcome r.apart c.args.at (cc c.outstanding.ensures.answer) c.args.byte;
-    }
-
-pub returns : goal.returns
-returns c =
-    let r = c.args.self.now in
-    let low = (c.if-not-outstanding.ensures.bounds refl).0 in
-    record {
-      kept = λ u. u;
-      own = λ u. stored-is (vec_items r.bytes) r.slots r.count r.requests r.last r.outcome r.apart c.args.at (cc c.outstanding.ensures.answer) c.args.byte;
-      rule = λ u. stores (vec_items r.bytes) r.slots r.count r.requests r.last r.outcome r.apart c.args.at (cc c.outstanding.ensures.answer) c.args.byte low;
-    }
+    let found = c.in_ok-i.ensures.found in
+    rw found.0 (stores r.bytes.items (chain r.slots.items) r.requests r.last r.apart c.in_ok-i.i (rw found.0 at found.2) c.args.byte)

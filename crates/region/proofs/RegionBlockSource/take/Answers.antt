@@ -1,50 +1,30 @@
-use Rattle.std.proofs.Common.{◌≡◌, length, vec_items, refl, arith, rules}
-use Rattle.region.specs.Regions.{usable}
-use Rattle.region.proofs.Searches.{served}
-use Rattle.region.proofs.Calls.{refuses, grants, chooses-full, chooses-none, chooses-lowest}
+use Rattle.std.proofs.Common.{◌<◌, length, Ok, Err, refl, arith}
+use Rattle.source.specs.declared.fault.SourceFault.TheVariants.{NoBlock}
+use Rattle.region.specs.Places.{chain}
+use Rattle.region.proofs.Chains.{chain-push, chain-length}
+use Rattle.region.proofs.Calls.{chooses, chooses-none, grants}
 use Rattle.region.proofs.RegionBlockSource.take.Goals as goal
 
-pub returns-then-self-eq32 : goal.returns-then-self-eq32
-returns-then-self-eq32 c =
+pub returns-then-is_full-clause-own : goal.returns-then-is_full-clause-own
+returns-then-is_full-clause-own c =
     let r = c.args.self.now in
-    record {
-      kept = λ u. u;
-      own = λ u. (chooses-full (vec_items r.bytes) r.slots r.count r.requests r.last r.outcome r.apart c.args.size (omega arith), refl);
-      rule = λ u. refuses (vec_items r.bytes) r.slots r.count r.requests r.last r.outcome r.apart c.args.size (omega arith) (omega arith);
-    }
+    (chooses r.bytes.items (chain r.slots.items) r.requests r.last r.apart c.args.size (Err NoBlock) (λ less. absurd (let l = chain-length r.slots.items in grind arith)), refl)
 
-pub returns-in_default : goal.returns-in_default
-returns-in_default c =
+pub returns-in_err-base-clause-own : goal.returns-in_err-base-clause-own
+returns-in_err-base-clause-own c =
     let r = c.args.self.now in
-    let len = c.len-len.ensures in
-    let none = rw len at c.in_default.ensures in
-    record {
-      kept = λ u. u;
-      own = λ u. (chooses-none (vec_items r.bytes) r.slots r.count r.requests r.last r.outcome r.apart c.args.size none, refl);
-      rule = λ u. refuses (vec_items r.bytes) r.slots r.count r.requests r.last r.outcome r.apart c.args.size (omega arith) (omega arith);
-    }
+    let none = rw c.in_err-base.ensures.ok_part at c.lowest.ensures in
+    (chooses-none r.bytes.items (chain r.slots.items) r.requests r.last r.apart c.args.size c.from_residual.result c.from_residual.ensures.0 none, refl)
 
-pub invariant_of-self-2 : goal.invariant_of-self-2
-invariant_of-self-2 c =
+pub returns-clause-own : goal.returns-clause-own
+returns-clause-own c =
     let r = c.args.self.now in
-    let whole : length c.args.self.now.slots ≡ 32 = search rules in
-    let few = r.few in
-    let len = c.len-len.ensures in
-    let low = rw len at c.in-Some.ensures in
-    record {
-      few = omega arith;
-      apart = served r.slots r.count (usable (length (vec_items r.bytes))) c.args.size c.in-Some.at (omega arith) (omega arith) r.apart low;
-    }
+    let low = rw c.in_ok-base.ensures.ok_part at c.lowest.ensures in
+    let less : length (chain r.slots.items) < 32 = (let l = chain-length r.slots.items in grind arith) in
+    (chooses r.bytes.items (chain r.slots.items) r.requests r.last r.apart c.args.size (Ok c.in_ok-base.base) (less, low), refl)
 
-pub returns : goal.returns
-returns c =
+pub returns-clause-rule : goal.returns-clause-rule
+returns-clause-rule c =
     let r = c.args.self.now in
-    let whole : length c.args.self.now.slots ≡ 32 = search rules in
-    let few = r.few in
-    let len = c.len-len.ensures in
-    let low = rw len at c.in-Some.ensures in
-    record {
-      kept = λ u. u;
-      own = λ u. (chooses-lowest (vec_items r.bytes) r.slots r.count r.requests r.last r.outcome r.apart c.args.size c.in-Some.at (omega arith) low, refl);
-      rule = λ u. grants (vec_items r.bytes) r.slots r.count r.requests r.last r.outcome r.apart c.args.size c.in-Some.at (omega arith) (omega arith) (omega arith) low;
-    }
+    let low = rw c.in_ok-base.ensures.ok_part at c.lowest.ensures in
+    rw (c.push.ensures.items, chain-push r.slots.items _) (grants r.bytes.items (chain r.slots.items) r.requests r.last r.apart c.args.size c.in_ok-base.base (omega arith) (omega arith) low)

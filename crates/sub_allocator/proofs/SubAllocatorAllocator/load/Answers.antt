@@ -1,12 +1,8 @@
-use Rattle.sub_allocator.proofs.Fixed.{load-found, load-lost}
+use Rattle.sub_allocator.proofs.Fixed.{load-found}
 use Rattle.sub_allocator.proofs.SubAllocatorAllocator.load.Goals as goal
 
-pub returns-in_default : goal.returns-in_default
-returns-in_default c u =
-    let s = c.args.self.now in
-    load-lost s.base s.used s.bytes.now c.args.at c.in_default.ensures.value
-
 pub returns : goal.returns
-returns c u =
+returns c =
     let s = c.args.self.now in
-    load-found s.base s.used s.bytes.now c.args.at c.in-Some.i c.in-Some.ensures.value
+    let found = c.in_ok-i.ensures.found in
+    rw found.0 (load-found s.base s.used s.bytes.now c.in_ok-i.i found.1 s.inside)

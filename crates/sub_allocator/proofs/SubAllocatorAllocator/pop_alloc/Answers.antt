@@ -1,17 +1,10 @@
-use Rattle.std.proofs.Common.{refl}
 use Rattle.sub_allocator.specs.Buffers.{fixed-lawful}
-use Rattle.sub_allocator.proofs.Fixed.{pop-found, pop-lost}
+use Rattle.sub_allocator.proofs.Fixed.{pop-found}
 use Rattle.allocator.proofs.Laws.{pop-undoes}
 use Rattle.sub_allocator.proofs.SubAllocatorAllocator.pop_alloc.Goals as goal
 
-pub returns-in_default : goal.returns-in_default
-returns-in_default c =
+pub returns-clause-undoes : goal.returns-clause-undoes
+returns-clause-undoes c =
     let s = c.args.self.now in
-    let pop = pop-lost s.base s.used s.bytes.now c.args.at c.in_default.ensures.value in
-    record { kept = λ u. u; own = λ u. (refl, refl); rule = λ u. pop; undoes = λ u. pop-undoes c.args.at _ _ _ (fixed-lawful s.base s.used s.bytes.now) pop }
-
-pub returns : goal.returns
-returns c =
-    let s = c.args.self.now in
-    let pop = pop-found s.base s.used s.bytes.now c.args.at c.in-Some.i c.in-Some.ensures.value in
-    record { kept = λ u. u; own = λ u. (refl, refl); rule = λ u. pop; undoes = λ u. pop-undoes c.args.at _ _ _ (fixed-lawful s.base s.used s.bytes.now) pop }
+    let found = c.in_ok-i.ensures.found in
+    rw found.0 (pop-undoes _ _ _ _ (fixed-lawful s.base s.used s.bytes.now s.low s.inside) (pop-found s.base s.used s.bytes.now c.in_ok-i.i found.1 s.inside))

@@ -1,23 +1,8 @@
-use Rattle.std.proofs.Common.{refl}
-use Rattle.sub_allocator.proofs.Fixed.{store-found, store-lost, stored-is, unstored-is}
+use Rattle.sub_allocator.proofs.Fixed.{store-found}
 use Rattle.sub_allocator.proofs.SubAllocatorAllocator.store.Goals as goal
 
-pub returns-in_default : goal.returns-in_default
-returns-in_default c =
+pub returns-clause-rule : goal.returns-clause-rule
+returns-clause-rule c =
     let s = c.args.self.now in
-    let none = c.in_default.ensures.value in
-    record {
-      kept = λ u. u;
-      own = λ u. (unstored-is s.base s.used s.bytes.now c.args.at none c.args.byte, refl);
-      rule = λ u. store-lost s.base s.used s.bytes.now c.args.at none c.args.byte;
-    }
-
-pub returns : goal.returns
-returns c =
-    let s = c.args.self.now in
-    let found = c.in-Some.ensures.value in
-    record {
-      kept = λ u. u;
-      own = λ u. (stored-is s.base s.used s.bytes.now c.args.at c.in-Some.i found c.args.byte, refl);
-      rule = λ u. store-found s.base s.used s.bytes.now c.args.at c.in-Some.i found c.args.byte;
-    }
+    let found = c.in_ok-i.ensures.found in
+    rw found.0 (store-found s.base s.used s.bytes.now c.in_ok-i.i found.1 s.inside c.args.byte)
