@@ -1,5 +1,5 @@
 -- A session's record of its live spans, the oldest first.
-use Rattle.std.specs.Prelude.{◌≡◌, ℕ, ◌+◌, ◌-◌, ◌^◌, ◌<◌, ◌≤◌, min, List, map, reverse, ◌≢◌}
+use Rattle.std.specs.Prelude.{◌≡◌, ℕ, ◌+◌, ◌-◌, ◌^◌, ◌<◌, ◌≤◌, min, Bool, true, ◌&&◌, List, [], ◌∷◌, map, reverse, ◌≢◌, nat_lt}
 use Rattle.session.specs.Ledger.{Span, new_span, Among}
 use Rattle.session.specs.declared.fault.Fault.{Fault}
 use Rattle.session.specs.declared.fault.Fault.TheVariants.{NotNewest, NotLive, Full, Outside, Allocator}
@@ -11,6 +11,15 @@ recorded span = new_span span.grant span.at span.layout.size span.layout.align
 -- the live spans, the newest first
 abbrev pub live : List LiveSpan → List Span
 live spans = map recorded (reverse spans)
+
+-- each grant is below the limit and above those before it
+abbrev pub numbered : List Span → ℕ → Bool
+numbered [] limit = true
+numbered (span ∷ older) limit = nat_lt span.grant limit && numbered older span.grant
+
+-- a grant is one live span's
+abbrev pub Unique : List Span → Type 0
+Unique live = (one other : Span) → Among one live → Among other live → one.grant ≡ other.grant → one ≡ other
 
 -- no live span has the grant
 abbrev pub NotAmong : List Span → ℕ → Type 0

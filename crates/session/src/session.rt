@@ -1,4 +1,7 @@
 // An allocator in use, with a record of the live spans.
+ghost use Rattle.std.specs.Prelude.{◌≡◌, ◌+◌, true};
+ghost use Rattle.session.specs.Records.{live, numbered};
+
 use crate::live::LiveSpan;
 use arrayvec::ArrayVec;
 
@@ -12,6 +15,7 @@ pub struct Session<A> {
     spans: ArrayVec<LiveSpan, MOST_LIVE>,
     // the number of the last grant
     given: u32,
+    ghost numbered: { numbered (live spans.items) (given + 1) ≡ true },
 }
 
 mod calls;

@@ -2,7 +2,7 @@ use Rattle.std.proofs.Common.{refl, sym}
 use Rattle.std.proofs.lemmas.Result.{err_from_is_err_and}
 use Rattle.session.specs.Steps.{refuses, nothing_live}
 use Rattle.session.specs.declared.fault.Fault.TheVariants.{NotLive}
-use Rattle.session.proofs.Records.{nothing, live-none, live-newest}
+use Rattle.session.proofs.Records.{nothing, live-none, live-newest, numbered-less}
 use Rattle.session.proofs.Steps.{declined, pop-done, pop-faulted}
 use Rattle.session.proofs.Owns.{own-untaken}
 use Rattle.session.proofs.session.Session.pop_newest.Goals as goal
@@ -25,6 +25,13 @@ returns-in_err-pop_alloc g c =
       step = pop-faulted (live-newest s.spans.items c.in_ok-newest.field-0.now (sym last)) rule;
       own = own-untaken s.inner c.pop_alloc.new.self f (declined _ tt rule.answer).1;
     })
+
+pub invariant_of-self-2 : goal.invariant_of-self-2
+invariant_of-self-2 g c =
+    let s = c.args.self.now in
+    let last = rw (c.deref.ensures.0, c.in_ok-newest.ensures.ok_part) at c.last.ensures.value in
+    let newest = live-newest s.spans.items c.in_ok-newest.field-0.now (sym last) in
+    rw c.pop.ensures.rest (record { numbered = numbered-less _ _ _ s.given newest s.numbered })
 
 pub returns : goal.returns
 returns g c =
