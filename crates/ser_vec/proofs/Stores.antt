@@ -11,9 +11,9 @@ use Rattle.allocator.proofs.Spans.{untaken-outside}
 use Rattle.kind.specs.declared.Kind as kinds
 use Rattle.session.specs.Ledger.{Span}
 use Rattle.session.specs.Records.{Held}
-use Rattle.session.specs.Calls.{Event, event, Answer, store, done, refused}
+use Rattle.session.specs.Calls.{Call, Event, event, Answer, store, done, refused}
 use Rattle.session.specs.Steps.{State, new_state, Step, stores, refuses, store_not_live, store_outside, store_untaken}
-use Rattle.session.specs.Sessions.{state, Performs}
+use Rattle.session.specs.Sessions.{state, Performs, Performed}
 use Rattle.session.specs.Runs.{Run, opened, visited}
 use Rattle.session.specs.declared.fault.Fault.{Fault}
 use Rattle.session.specs.declared.fault.Fault.TheVariants.{Allocator}
@@ -27,6 +27,10 @@ use Rattle.ser_vec.proofs.Packings.{joined-at}
 -- what the exit of a `?` returns
 pub failed : {T E : Type 0} {b : E} (r : Result T E) → IsErrAnd r (λ y. y ≡ b) → r ≡ Err b
 failed r told = let (y, is, same) = err_from_is_err_and r told in is ∙ ap Err same
+
+-- what a call did in a regular session
+pub performed : {A : Type 0} {al : Ghosts A} {s s' : Session A} {call : Call} {answer : Answer} → Regular al s → Performs al s call answer s' → Performed al s call answer s'
+performed regular performs = performs regular.sound
 
 pub taken-within : (m : Memory) (at : ℕ) → Lawful m → taken m at ≡ true → within m at ≡ true
 taken-within m at lawful on = elim (cases_Bool (within m at)) [
@@ -88,23 +92,22 @@ module _ {A : Type 0} (al : Ghosts A) (s : Session A) (grant at offset : ℕ) (b
 
     pub stored-more : Performs al s₁ (store grant (offset + n) value) done s₂ → Stored al s grant at offset bs (n + 1) s₂
     stored-more performs =
-        let sound = sofar.regular.sound in
-        let performed = performs sound in
-        let (on, after) = store-done at room.size sofar.regular.unique still performed.step in
+        let did = performed sofar.regular performs in
+        let (on, after) = store-done at room.size sofar.regular.unique still did.step in
         let place : at + (offset + n) ≡ at + offset + n = omega arith in
-        let inside = taken-within (state al s₁).memory (at + (offset + n)) (al.lawful s₁.inner sound) on in
+        let inside = taken-within (state al s₁).memory (at + (offset + n)) (al.lawful s₁.inner sofar.regular.sound) on in
         let laid = laid-more (state al s) (state al s₁) (state al s₂) (at + offset) bs n value (at + (offset + n)) sofar.laid is place inside after in
         record {
           run = next-run (ap (λ v. event (store grant (offset + n) v) done) is) (visited sofar.run performs);
           laid = laid;
-          regular = record { sound = performed.sound; unique = subst Unique (sym (ap (λ (z : State). z.live) after)) sofar.regular.unique };
+          regular = record { sound = did.sound; unique = subst Unique (sym (ap (λ (z : State). z.live) after)) sofar.regular.unique };
         }
 
     pub stored-cut : {fault : Fault} {r : Result (Unit {0}) ours.Fault} → r ≡ Err (Nested fault) → Performs al s₁ (store grant (offset + n) value) (refused fault) s₂ →
         Writes al s grant at offset bs most r s₂
     stored-cut {fault} e performs =
         let inside : offset + n < room.size = omega (arith, room.inside) in
-        let (why, same) = store-refused at room.size sofar.regular.unique still inside (performs sofar.regular.sound).step in
+        let (why, same) = store-refused at room.size sofar.regular.unique still inside (performed sofar.regular performs).step in
         let last : event (store grant (offset + n) value) (refused fault) ≡ event (store grant (offset + n) (get_or bs n 0)) (refused (Allocator Address)) =
         ap (λ v. event (store grant (offset + n) v) (refused fault)) is ∙ ap (λ f. event (store grant (offset + n) (get_or bs n 0)) (refused f)) why in
         rw e (

@@ -20,7 +20,7 @@ use Rattle.ser_vec.specs.Vectors.{clears, tells, absent, none, beyond, spanless,
 use Rattle.ser_vec.specs.declared.fault.Fault.{Fault}
 use Rattle.ser_vec.specs.declared.fault.Fault.TheVariants.{Session as Nested}
 use Rattle.ser_vec.specs.declared.header.Header.{Header}
-use Rattle.ser_vec.proofs.Stores.{failed}
+use Rattle.ser_vec.proofs.Stores.{failed, performed}
 use Rattle.ser_vec.proofs.Lists.{elements-kept, elements-extended, elements-replaced, others-kept}
 
 -- in a session where a grant is one span's, what is told of its span is all there is
@@ -170,7 +170,7 @@ module _ {A K : Type 0} (al : Ghosts A) (kind : kinds.Ghosts K) (cap : ℕ) (s s
       Went al s s' (λ events. Opening kind cap (state al s) (Ok (new_vector (Some g) at cap 0)) events (state al s'))
   opening g at performs regular =
       let did = performs-as (granted g.number at) performs in
-      let spans = served-live (did regular.sound).step in
+      let spans = served-live (performed regular did).step in
       let held : Held (state al s').live g.number at (cap * kind.wide) =
       subst (λ l. Held l g.number at (cap * kind.wide)) (sym spans) (new_span g.number at (cap * kind.wide) kind.aligned, inl refl, refl, refl, refl) in
       record {
