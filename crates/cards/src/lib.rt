@@ -35,7 +35,23 @@ pub enum Letter {
     Pop,
 }
 
-/// A character that is no letter's is no card's.
+impl Letter {
+    /// The alignment of a push; what is no push has none.
+    pub fn align(self) -> Option<usize>
+        ensures { result ≡ align_of self }
+    {
+        match self {
+            Letter::Byte => Some(1),
+            Letter::Half => Some(2),
+            Letter::Word => Some(4),
+            Letter::Double => Some(8),
+            Letter::Quad => Some(16),
+            Letter::Positions | Letter::Cues | Letter::Pop => None,
+        }
+    }
+}
+
+/// The letter that the character writes; a character that writes none is refused.
 impl TryFrom<char> for Letter {
     type Error = Fault;
 
@@ -80,22 +96,6 @@ impl fmt::Display for Letter {
     fn fmt<W: fmt::Write>(&self, f: &mut fmt::Formatter<W>) -> fmt::Result {
         let letter = char::from(*self);
         write!(f, "{letter}")
-    }
-}
-
-impl Letter {
-    /// The alignment of a push; what is no push has none.
-    pub fn align(self) -> Option<usize>
-        ensures { result ≡ align_of self }
-    {
-        match self {
-            Letter::Byte => Some(1),
-            Letter::Half => Some(2),
-            Letter::Word => Some(4),
-            Letter::Double => Some(8),
-            Letter::Quad => Some(16),
-            Letter::Positions | Letter::Cues | Letter::Pop => None,
-        }
     }
 }
 

@@ -5,7 +5,7 @@ use Rattle.std.specs.Cmp.Lexicographic.{pointwise, told_text}
 use Rattle.std.specs.Option.{MatchOption}
 use Rattle.cards.specs.Read.{Lines}
 use Rattle.cards.specs.declared.Entry.{Entry}
-use Rattle.cards.proofs.Lines.{Sofar, Apart, upcoming, one-more, all-seen, no-other, apart-more, apart-last, apart-next}
+use Rattle.cards.proofs.Lines.{Apart, upcoming, one-more, all-seen, no-other, apart-more, apart-last, apart-next}
 use Rattle.cards.proofs.entries.Goals as goal
 use Rattle.cards.proofs.entries.Goals.{then-i-letters+in_ok-rest, else-i-letters}
 
@@ -34,7 +34,7 @@ loop-i-preserved c =
     ] in (
       omega (arith, c.push_reserved.ensures.len),
       omega (arith, c.push_reserved.ensures.capacity),
-      subst (λ es. Sofar c.args.letters.now c.args.sizes.now es (c.loop-i.i + 1) c.if-i-letters.rest.now) (sym c.push_reserved.ensures.items)
+      rw c.push_reserved.ensures.items
           (one-more c.loop-i.invariant.2 c.in_ok-entry.entry c.in_ok-entry.next.now c.if-i-letters.rest.now (omega arith) begins.0 begins.1 begins.2 apart (λ e t ts. c.in_ok-entry.ensures.every e t ts)),
     )
 
