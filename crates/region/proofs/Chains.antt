@@ -1,10 +1,10 @@
 -- What the slots say of the places that they stand for.
-use Rattle.std.proofs.Common.{◌≡◌, ℕ, ◌+◌, ◌*◌, ◌%◌, ◌<◌, ◌≤◌, Bool, true, false, not, ◌&&◌, ◌||◌, ltb, ◌==◌, List, [], ◌∷◌, ◌++◌, length, map, reverse, filter, Some, sym, refl, ap, ◌∙◌, inl, inr, append-nil, arith}
+use Rattle.std.proofs.Common.{◌≡◌, ℕ, ◌+◌, ◌<◌, ◌≤◌, Bool, true, false, not, ◌&&◌, ◌||◌, ltb, ◌==◌, List, [], ◌∷◌, ◌++◌, length, map, reverse, filter, Some, sym, refl, ap, ◌∙◌, inl, inr, append-nil, arith}
 use Rattle.std.specs.List.{list_any}
 use Rattle.std.proofs.lemmas.List.{map-append, reverse-append, length-reverse, length-map}
 use Rattle.std.proofs.lemmas.List.Elements.{filter-append}
 use Rattle.std.proofs.lemmas.List.Sorted.{IsPermutation-reverse, list_any-IsPermutation}
-use Rattle.std.proofs.lemmas.Bool.{cases_Bool, and_parts, and_from, or_cases, true≢false, lt-ltb, le-leb, eq-eqb}
+use Rattle.std.proofs.lemmas.Bool.{cases_Bool, and_parts, or_cases, true≢false}
 use Rattle.std.proofs.lemmas.Bool.Decides.{nat_tests}
 use Rattle.allocator.specs.Memory.{spans}
 use Rattle.source.specs.Blocks.{Place}
@@ -66,16 +66,16 @@ covered len (p ∷ ps) at k c =
     let low = a.stands.low in
     let high = a.stands.high in
     elim (or_cases (spans p.base p.size at) (covers ps at) c) [
-      | inl e ↦ (let b : (p.base ≤ at) × (at < p.base + p.size) = (grind (arith, nat_tests), grind (arith, nat_tests)) in (omega (arith, b.0), omega (arith, b.1)))
+      | inl e ↦ (grind (arith, nat_tests), grind (arith, nat_tests))
       | inr e ↦ covered len ps at a.older e
     ]
 
 -- a block at the lowest place stands beside the others
 pub served : (ps : List Place) (len size at : ℕ) → 0 < size → keeps len ps ≡ true → Lowest len ps size (Some at) → keeps len (record { base = at; size = size } ∷ ps) ≡ true
 served ps len size at some k (q, e, s, _) =
-    let inside : stands len (cut q size) ≡ true =
-    and_from _ _ (lt-ltb 0 size some) (and_from _ _ (le-leb 4096 (4096 + 16 * q) (omega arith)) (and_from _ _ (le-leb (4096 + 16 * q + size) (4096 + len) (omega (arith, s.0))) (eq-eqb ((4096 + 16 * q) % 8) 0 (omega arith)))) in
-    rw e (and_from (stands len (cut q size)) (free ps (cut q size) && keeps len ps) inside (and_from (free ps (cut q size)) (keeps len ps) s.1 k))
+    let low = s.0 in
+    let inside : stands len (cut q size) ≡ true = grind (arith, nat_tests) in
+    rw (e, inside, s.1) k
 
 free-leaving : (ps : List Place) (q : Place) (at : ℕ) → free ps q ≡ true → free (leaving ps at) q ≡ true
 free-leaving [] q at f = refl
@@ -83,7 +83,7 @@ free-leaving (p ∷ ps) q at f =
     let a = and_parts (apart p q) (free ps q) f in
     elim (cases_Bool (p.base == at)) [
       | inl e ↦ rw e (free-leaving ps q at a.1)
-      | inr e ↦ rw e (and_from (apart p q) (free (leaving ps at) q) a.0 (free-leaving ps q at a.1))
+      | inr e ↦ rw (e, a.0) (free-leaving ps q at a.1)
     ]
 
 -- the others stand beside one another as they did
@@ -94,5 +94,5 @@ keeps-leaving len (p ∷ ps) at k =
     let b = and_parts (free ps p) (keeps len ps) a.1 in
     elim (cases_Bool (p.base == at)) [
       | inl e ↦ rw e (keeps-leaving len ps at b.1)
-      | inr e ↦ rw e (and_from (stands len p) (free (leaving ps at) p && keeps len (leaving ps at)) a.0 (and_from (free (leaving ps at) p) (keeps len (leaving ps at)) (free-leaving ps p at b.0) (keeps-leaving len ps at b.1)))
+      | inr e ↦ rw (e, a.0, free-leaving ps p at b.0) (keeps-leaving len ps at b.1)
     ]

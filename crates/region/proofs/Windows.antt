@@ -3,6 +3,7 @@ use Rattle.std.proofs.Common.{◌≡◌, ℕ, ◌+◌, ◌-◌, ◌≤◌, Bool,
 use Rattle.std.proofs.lemmas.List.{take-set-le, drop-set-lt, drop-set-add, get_or-take, get_or-drop}
 use Rattle.std.proofs.Math.Seq.{take-set-lt}
 use Rattle.std.proofs.lemmas.Bool.{cases_lt, cases_Bool, true≢false}
+use Rattle.std.proofs.lemmas.Bool.Decides.{nat_tests}
 use Rattle.allocator.specs.Memory.{spans}
 use Rattle.allocator.proofs.Spans.{spans-true, spans-from, spans-before, spans-past}
 use Rattle.source.specs.Blocks.{Outstanding, Place, places, without, starts, byte_at, stored}
@@ -25,14 +26,7 @@ window-set n k l i v =
 
 -- the same, by addresses
 shifted : (base size at : ℕ) → 4096 ≤ base → 4096 ≤ at → spans (base - 4096) size (at - 4096) ≡ spans base size at
-shifted base size at low low' =
-    elim (cases_lt at base) [
-      | inl before ↦ spans-before (base - 4096) size (at - 4096) (omega arith) ∙ sym (spans-before base size at before)
-      | inr from ↦ elim (cases_lt at (base + size)) [
-        | inl under ↦ spans-from (base - 4096) size (at - 4096) (omega arith) (omega arith) ∙ sym (spans-from base size at from under)
-        | inr past ↦ spans-past (base - 4096) size (at - 4096) (omega arith) ∙ sym (spans-past base size at past)
-      ]
-    ]
+shifted base size at low low' = grind (arith, nat_tests)
 
 module _ (bytes : List ℕ) where
   pub stored-cuts : (ps : List Place) (at v : ℕ) → keeps (usable (length bytes)) ps ≡ true → 4096 ≤ at → cuts_out (set bytes (at - 4096) v) ps ≡ stored (cuts_out bytes ps) at v

@@ -8,7 +8,7 @@ use Rattle.region.specs.declared.slot.Slot.{Slot}
 abbrev pub place : Slot → Place
 place s = record { base = s.base; size = s.size }
 
--- the places of the slots, the last first
+-- the places of the slots, the newest first
 abbrev pub chain : List Slot → List Place
 chain slots = reverse (map place slots)
 

@@ -1,7 +1,8 @@
 -- What a region stands for, which requests it grants, and that its blocks are lawful.
-use Rattle.std.specs.Prelude.{◌≡◌, ℕ, ◌+◌, ◌-◌, ◌%◌, ◌<◌, ◌≤◌, min, true, false, cond, ◌&&◌, List, [], ◌∷◌, length, take, drop, Some, None, Option, Ok, Err, Result, ◌==◌, nat_le, nat_lt, slice_set, refl}
-use Rattle.std.proofs.Common.{◌∙◌, inl, inr, arith, length-take, length-drop}
-use Rattle.std.proofs.lemmas.Bool.{and_parts, or_cases, leb-true, ltb-true, eqb-true, lt-leb, le-ltb, and_left, and_right, or_from}
+use Rattle.std.specs.Prelude.{◌≡◌, ℕ, ◌+◌, ◌-◌, ◌%◌, ◌<◌, ◌≤◌, min, true, false, cond, ◌&&◌, List, [], ◌∷◌, length, take, drop, Some, None, Option, Ok, Err, Result, slice_set, refl}
+use Rattle.std.proofs.Common.{◌∙◌, arith, length-take, length-drop}
+use Rattle.std.proofs.lemmas.Bool.{and_parts, or_from}
+use Rattle.std.proofs.lemmas.Bool.Decides.{nat_tests}
 use Rattle.allocator.specs.Memory.{spans}
 use Rattle.source.specs.Answers.{sized}
 use Rattle.source.specs.Blocks.{Source, Outstanding, Place, Lawful, places, within}
@@ -47,16 +48,7 @@ pub record Stands (len : ℕ) (p : Place) : Type 0 where
   pub eighth : p.base % 8 ≡ 0
 
 pub standing : (len : ℕ) (p : Place) → stands len p ≡ true → Stands len p
-standing len p s =
-    let a = and_parts (nat_lt 0 p.size) _ s in
-    let b = and_parts (nat_le 4096 p.base) _ a.1 in
-    let c = and_parts (nat_le (p.base + p.size) (4096 + len)) (p.base % 8 == 0) b.1 in
-    record {
-      some = ltb-true 0 p.size a.0;
-      low = leb-true 4096 p.base b.0;
-      high = leb-true (p.base + p.size) (4096 + len) c.0;
-      eighth = eqb-true (p.base % 8) 0 c.1;
-    }
+standing len p s = record { some = grind (arith, nat_tests); low = grind (arith, nat_tests); high = grind (arith, nat_tests); eighth = grind (arith, nat_tests) }
 
 pub record Parts (len : ℕ) (p : Place) (ps : List Place) : Type 0 where
   pub stands : Stands len p
@@ -70,14 +62,7 @@ parts len p ps k =
     record { stands = standing len p a.0; free = b.0; older = b.1 }
 
 outside : (p q : Place) (at : ℕ) → apart q p ≡ true → spans p.base p.size at ≡ true → spans q.base q.size at ≡ false
-outside p q at beside in' =
-    let a = and_parts (nat_le p.base at) (nat_lt at (p.base + p.size)) in' in
-    let low : p.base ≤ at = leb-true p.base at a.0 in
-    let high : at < p.base + p.size = ltb-true at (p.base + p.size) a.1 in
-    elim (or_cases (nat_le (q.base + q.size) p.base) (nat_le (p.base + p.size) q.base) beside) [
-      | inl e ↦ (let f = leb-true (q.base + q.size) p.base e in and_right (nat_le q.base at) (nat_lt at (q.base + q.size)) (le-ltb at (q.base + q.size) (omega arith)))
-      | inr e ↦ (let f = leb-true (p.base + p.size) q.base e in and_left (nat_le q.base at) (nat_lt at (q.base + q.size)) (lt-leb q.base at (omega arith)))
-    ]
+outside p q at beside in' = grind (arith, nat_tests)
 
 clear : (p : Place) (ps : List Place) → free ps p ≡ true → (at : ℕ) → spans p.base p.size at ≡ true → covers ps at ≡ false
 clear p [] f at in' = refl

@@ -1,12 +1,12 @@
 // Where an outstanding block of a region lies.
-ghost use Rattle.std.specs.Prelude.{◌≡◌, ◌+◌, ◌≤◌, ◌&&◌, nat_lt};
+ghost use Rattle.std.specs.Prelude.{◌≡◌, ◌+◌, ◌^◌, ◌≤◌, ◌&&◌, nat_lt};
 ghost use Rattle.allocator.specs.Memory.{spans};
 
 #[derive(Clone, Copy, Debug, PartialEq, Eq)]
 pub struct Slot {
     pub base: usize,
     pub size: usize,
-    ghost high: { base + size ≤ 281474976710656 },
+    ghost high: { base + size ≤ 2 ^ 48 },
 }
 
 // by hand, since no derive writes it beside a ghost field

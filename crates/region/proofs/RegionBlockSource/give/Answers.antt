@@ -12,7 +12,7 @@ pub returns-then-not-any-clause-rule : goal.returns-then-not-any-clause-rule
 returns-then-not-any-clause-rule c =
     let r = c.args.self.now in
     let by_call = any_from_yields_List (λ s. s.base == c.args.base) _ _ c.any.result c.any.ensures.ran (YieldsList-from_slice r.slots.items cc) (λ x b q k. search (rules, tests)) in
-    misses r.bytes.items (chain r.slots.items) r.requests r.last r.apart c.args.base (any-chain (λ p. p.base == c.args.base) r.slots.items ∙ (sym by_call ∙ c.if-not-any.true))
+    misses r c.args.base (any-chain (λ p. p.base == c.args.base) r.slots.items ∙ (sym by_call ∙ c.if-not-any.true))
 
 pub invariant_of-self : goal.invariant_of-self
 invariant_of-self c =
@@ -25,4 +25,4 @@ returns-clause-rule c =
     let r = c.args.self.now in
     let by_call = any_from_yields_List (λ s. s.base == c.args.base) _ _ c.any.result c.any.ensures.ran (YieldsList-from_slice r.slots.items cc) (λ x b q k. search (rules, tests)) in
     let left = leaves c.args.base _ _ (filter-from_retain _ _ _ (λ x b f' y called. search rules) _ _ c.retain.ensures.filtered) in
-    rw left (gives r.bytes.items (chain r.slots.items) r.requests r.last r.apart c.args.base (any-chain (λ p. p.base == c.args.base) r.slots.items ∙ (sym by_call ∙ c.if-not-any.false)))
+    rw left (gives r c.args.base (any-chain (λ p. p.base == c.args.base) r.slots.items ∙ (sym by_call ∙ c.if-not-any.false)))

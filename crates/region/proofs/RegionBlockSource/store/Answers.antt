@@ -1,4 +1,3 @@
-use Rattle.region.specs.Places.{chain}
 use Rattle.region.proofs.Calls.{stores}
 use Rattle.region.proofs.RegionBlockSource.store.Goals as goal
 
@@ -6,4 +5,4 @@ pub returns-clause-rule : goal.returns-clause-rule
 returns-clause-rule c =
     let r = c.args.self.now in
     let found = c.in_ok-i.ensures.found in
-    rw found.0 (stores r.bytes.items (chain r.slots.items) r.requests r.last r.apart c.in_ok-i.i (rw found.0 at found.2) c.args.byte)
+    rw found.0 (stores r c.in_ok-i.i (rw found.0 at found.2) c.args.byte)
