@@ -16,10 +16,11 @@ use Rattle.session.specs.Runs.{Run, opened, visited}
 use Rattle.session.specs.declared.fault.Fault.{Fault}
 use Rattle.session.specs.declared.fault.Fault.TheVariants.{Allocator}
 use Rattle.session.specs.declared.session.Session.{Session}
-use Rattle.ser_vec.specs.Elements.{source, loads_of, Unique, Room, Loaded, Reads}
+use Rattle.session.specs.Records.{Unique}
+use Rattle.session.proofs.Records.{grants-unique}
+use Rattle.ser_vec.specs.Elements.{source, loads_of, Room, Loaded, Reads}
 use Rattle.ser_vec.specs.declared.fault.Fault as ours
 use Rattle.ser_vec.specs.declared.fault.Fault.TheVariants.{Session as Nested}
-use Rattle.ser_vec.proofs.Stores.{performed}
 
 -- what a load that is answered says of the grant's one span
 load-done : {s : State} {grant offset v : ℕ} {s' : State} (at size : ℕ) → Unique s.live → Held s.live grant at size → Step s (load grant offset) (byte v) s' →
@@ -60,9 +61,9 @@ module _ {A K : Type 0} (al : Ghosts A) (kind : kinds.Ghosts K) (s : Session A) 
 
     pub read-more : (value : ℕ) → n < length buffer → Performs al s (load grant (offset + n)) (byte value) s → Read (n + 1) (set buffer n value)
     read-more value short performs =
-        let step = (performed room.regular performs).step in
+        let step = performs.step in
         let place : at + (offset + n) ≡ at + offset + n = omega arith in
-        let is : value ≡ byte_at (state al s).memory (at + offset + n) = load-done at room.size room.regular.unique room.held step ∙ ap (λ x. byte_at (state al s).memory x) place in
+        let is : value ≡ byte_at (state al s).memory (at + offset + n) = load-done at room.size (grants-unique al s) room.held step ∙ ap (λ x. byte_at (state al s).memory x) place in
         record {
           run = subst (λ j. Run al s (loads_of grant offset bs j) s) (sym (add-one n))
               (subst (λ v. Run al s (event (load grant (offset + n)) (byte v) ∷ loads_of grant offset bs n) s) (is ∙ sym at-n) (visited sofar.run performs));
@@ -77,7 +78,7 @@ module _ {A K : Type 0} (al : Ghosts A) (kind : kinds.Ghosts K) (s : Session A) 
     pub read-cut : {fault : Fault} {r : Result K ours.Fault} → r ≡ Err (Nested fault) → Performs al s (load grant (offset + n)) (refused fault) s → Reads al kind s grant at offset r
     read-cut {fault} e performs =
         let inside : offset + n < room.size = omega (arith, room.inside) in
-        let why = load-refused at room.size room.regular.unique room.held inside (performed room.regular performs).step in
+        let why = load-refused at room.size (grants-unique al s) room.held inside performs.step in
         rw e (
           ap Nested why,
           record {

@@ -11,15 +11,17 @@ use Rattle.allocator.proofs.Spans.{untaken-outside}
 use Rattle.kind.specs.declared.Kind as kinds
 use Rattle.session.specs.Ledger.{Span}
 use Rattle.session.specs.Records.{Held}
-use Rattle.session.specs.Calls.{Call, Event, event, Answer, store, done, refused}
+use Rattle.session.specs.Calls.{Event, event, Answer, store, done, refused}
 use Rattle.session.specs.Steps.{State, new_state, Step, stores, refuses, store_not_live, store_outside, store_untaken}
-use Rattle.session.specs.Sessions.{state, Performs, Performed}
+use Rattle.session.specs.Sessions.{state, Performs}
 use Rattle.session.specs.Runs.{Run, opened, visited}
 use Rattle.session.specs.declared.fault.Fault.{Fault}
 use Rattle.session.specs.declared.fault.Fault.TheVariants.{Allocator}
 use Rattle.session.specs.declared.session.Session.{Session}
 use Rattle.session.proofs.Blocks.{byte_at-stored, byte_at-other}
-use Rattle.ser_vec.specs.Elements.{stores_of, packings, Unique, Laid, Regular, Room, Stored, StoredCut, Writes}
+use Rattle.session.specs.Records.{Unique}
+use Rattle.session.proofs.Records.{grants-unique}
+use Rattle.ser_vec.specs.Elements.{stores_of, packings, Laid, Room, Stored, StoredCut, Writes}
 use Rattle.ser_vec.specs.declared.fault.Fault as ours
 use Rattle.ser_vec.specs.declared.fault.Fault.TheVariants.{Session as Nested}
 use Rattle.ser_vec.proofs.Packings.{joined-at}
@@ -27,10 +29,6 @@ use Rattle.ser_vec.proofs.Packings.{joined-at}
 -- what the exit of a `?` returns
 pub failed : {T E : Type 0} {b : E} (r : Result T E) → IsErrAnd r (λ y. y ≡ b) → r ≡ Err b
 failed r told = let (y, is, same) = err_from_is_err_and r told in is ∙ ap Err same
-
--- what a call did in a regular session
-pub performed : {A : Type 0} {al : Ghosts A} {s s' : Session A} {call : Call} {answer : Answer} → Regular al s → Performs al s call answer s' → Performed al s call answer s'
-performed regular performs = performs regular.sound
 
 pub taken-within : (m : Memory) (at : ℕ) → Lawful m → taken m at ≡ true → within m at ≡ true
 taken-within m at lawful on = elim (cases_Bool (within m at)) [
@@ -79,8 +77,8 @@ laid-more s s₁ s₂ at bs n v to laid value place inside is =
     }
 
 module _ {A : Type 0} (al : Ghosts A) (s : Session A) (grant at offset : ℕ) (bs : List ℕ) where
-  pub stored-none : Regular al s → Stored al s grant at offset bs 0 s
-  stored-none regular = record { run = opened; laid = laid-none (state al s) (at + offset) bs; regular = regular }
+  pub stored-none : Stored al s grant at offset bs 0 s
+  stored-none = record { run = opened; laid = laid-none (state al s) (at + offset) bs }
 
   module _ (most : ℕ) (room : Room al s grant at offset most) (n value : ℕ) (less : n < most) (is : value ≡ get_or bs n 0) (s₁ s₂ : Session A)
       (sofar : Stored al s grant at offset bs n s₁) where
@@ -92,22 +90,20 @@ module _ {A : Type 0} (al : Ghosts A) (s : Session A) (grant at offset : ℕ) (b
 
     pub stored-more : Performs al s₁ (store grant (offset + n) value) done s₂ → Stored al s grant at offset bs (n + 1) s₂
     stored-more performs =
-        let did = performed sofar.regular performs in
-        let (on, after) = store-done at room.size sofar.regular.unique still did.step in
+        let (on, after) = store-done at room.size (grants-unique al s₁) still performs.step in
         let place : at + (offset + n) ≡ at + offset + n = omega arith in
-        let inside = taken-within (state al s₁).memory (at + (offset + n)) (al.lawful s₁.inner sofar.regular.sound) on in
+        let inside = taken-within (state al s₁).memory (at + (offset + n)) (al.lawful s₁.inner) on in
         let laid = laid-more (state al s) (state al s₁) (state al s₂) (at + offset) bs n value (at + (offset + n)) sofar.laid is place inside after in
         record {
           run = next-run (ap (λ v. event (store grant (offset + n) v) done) is) (visited sofar.run performs);
           laid = laid;
-          regular = record { sound = did.sound; unique = subst Unique (sym (ap (λ (z : State). z.live) after)) sofar.regular.unique };
         }
 
     pub stored-cut : {fault : Fault} {r : Result (Unit {0}) ours.Fault} → r ≡ Err (Nested fault) → Performs al s₁ (store grant (offset + n) value) (refused fault) s₂ →
         Writes al s grant at offset bs most r s₂
     stored-cut {fault} e performs =
         let inside : offset + n < room.size = omega (arith, room.inside) in
-        let (why, same) = store-refused at room.size sofar.regular.unique still inside (performed sofar.regular performs).step in
+        let (why, same) = store-refused at room.size (grants-unique al s₁) still inside performs.step in
         let last : event (store grant (offset + n) value) (refused fault) ≡ event (store grant (offset + n) (get_or bs n 0)) (refused (Allocator Address)) =
         ap (λ v. event (store grant (offset + n) v) (refused fault)) is ∙ ap (λ f. event (store grant (offset + n) (get_or bs n 0)) (refused f)) why in
         rw e (
@@ -168,7 +164,6 @@ module _ (bs cs : List ℕ) (n most : ℕ) (same : (j : ℕ) → j < most → ge
         record {
           run = subst (λ (es : List Event). Run al s es s₂) (stores-after grant o most (omega arith)) (run-after sofar.run more.run);
           laid = laid-after (at + o) most (omega arith) sofar.laid (subst (λ a. Laid (state al s₁) a cs most (state al s₂)) place-is more.laid);
-          regular = more.regular;
         }
 
     pub cut-after : (whole : ℕ) → n + most ≤ whole → StoredCut al s₁ grant at (o + n) cs most s₂ → StoredCut al s grant at o bs whole s₂
@@ -198,7 +193,7 @@ module _ {A K : Type 0} (al : Ghosts A) (kind : kinds.Ghosts K) (exact : (x : K)
   offset-is = add-mul index i w
 
   room-next : Room al s₁ grant at ((index + i) * w) (1 * w)
-  room-next = record { regular = sofar.regular; size = room.size; held = subst (λ l. Held l grant at room.size) (sym sofar.laid.live) room.held; inside = omega (arith, offset-is, inside, room.inside) }
+  room-next = record { size = room.size; held = subst (λ l. Held l grant at room.size) (sym sofar.laid.live) room.held; inside = omega (arith, offset-is, inside, room.inside) }
 
   same-bytes : (j : ℕ) → j < 1 * w → get_or (packings kind (x ∷ [])) j 0 ≡ get_or (packings kind xs) (i * w + j) 0
   same-bytes j less =

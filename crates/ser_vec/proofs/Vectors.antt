@@ -15,12 +15,14 @@ use Rattle.session.specs.Runs.{opened, visited}
 use Rattle.session.specs.declared.fault.Fault as session
 use Rattle.session.specs.declared.grant.Grant.{Grant}
 use Rattle.session.specs.declared.session.Session.{Session}
-use Rattle.ser_vec.specs.Elements.{element_at, packings, stores_of, stores_cut, loads_of, loads_cut, source, Unique, Regular, Room, Reads, Writes}
+use Rattle.session.specs.Records.{Unique}
+use Rattle.session.proofs.Records.{grants-unique}
+use Rattle.ser_vec.specs.Elements.{element_at, packings, stores_of, stores_cut, loads_of, loads_cut, source, Room, Reads, Writes}
 use Rattle.ser_vec.specs.Vectors.{clears, tells, absent, none, beyond, spanless, Vector, new_vector, plain, resized, Lives, Tested, Rule, not_live, live, Guarded, Reserving, enough, lacking, Extending, full, extended, extend_cut, Setting, replaced, set_cut, Getting, got, get_cut, Popping, popped, pop_cut, Closing, closed, stays, Opening, placed, unplaced, Went, Acts}
 use Rattle.ser_vec.specs.declared.fault.Fault.{Fault}
 use Rattle.ser_vec.specs.declared.fault.Fault.TheVariants.{Session as Nested}
 use Rattle.ser_vec.specs.declared.header.Header.{Header}
-use Rattle.ser_vec.proofs.Stores.{failed, performed}
+use Rattle.ser_vec.proofs.Stores.{failed}
 use Rattle.ser_vec.proofs.Lists.{elements-kept, elements-extended, elements-replaced, others-kept}
 
 -- in a session where a grant is one span's, what is told of its span is all there is
@@ -38,11 +40,11 @@ same-pair a b differ = false≢true (differ ∙ rw (eq-eqb a a refl, eq-eqb b b 
 
 module _ {A X : Type 0} {al : Ghosts A} {w : ℕ} {Does : Rule X} {v : Vector} {s : Session A} {r : Result X Fault} where
   pub dead : {fault : Fault} → Tested w v (state al s) (Err fault) → r ≡ Err fault → Acts al w Does v s r v s
-  dead (why, denied) e regular = record { events = []; run = opened; rule = rw (e, why) (not_live (denied regular.unique)) }
+  dead (why, denied) e = record { events = []; run = opened; rule = rw (e, why) (not_live (denied (grants-unique al s))) }
 
   -- a call that asks nothing of the session
   pub alone : {v' : Vector} → Lives w v (state al s) → Does v (state al s) r [] v' (state al s) → Acts al w Does v s r v' s
-  alone lives does regular = record { events = []; run = opened; rule = live lives does }
+  alone lives does = record { events = []; run = opened; rule = live lives does }
 
 -- what does not fit is not appended
 refused-guarded : {K : Type 0} {kind : kinds.Ghosts K} {w : ℕ} {xs : List K} {v : Vector} {s : State} {r : Result (Unit {0}) Fault} {events : List Event} {v' : Vector} {s' : State} {fault : Fault} →
@@ -53,8 +55,8 @@ refused-guarded e (live lives (lacking short)) = live lives (full short)
 
 pub unfit : {A K : Type 0} {al : Ghosts A} {kind : kinds.Ghosts K} {w : ℕ} {xs : List K} {v : Vector} {s : Session A} {r : Result (Unit {0}) Fault} {fault : Fault} →
     Acts al w (Reserving (length xs)) v s (Err fault) v s → r ≡ Err fault → Acts al w (Extending kind xs) v s r v s
-unfit told e regular =
-    let went = told regular in
+unfit told e =
+    let went = told in
     rw e (record { events = went.events; run = went.run; rule = refused-guarded refl went.rule })
 
 -- the ways through a call that ask nothing of the session
@@ -79,51 +81,51 @@ module _ {A K : Type 0} (al : Ghosts A) (kind : kinds.Ghosts K) (h : Header) (s 
   abbrev g : ℕ
   g = h.grant.number
 
-  room : (i n : ℕ) → i + n ≤ h.cap → Regular al s → Room al s g h.at (i * w) (n * w)
-  room i n inside regular =
-      record { regular = regular; size = h.cap * w; held = lives; inside = omega (arith, add-mul i n w, mul-le-mul_right w inside) }
+  room : (i n : ℕ) → i + n ≤ h.cap → Room al s g h.at (i * w) (n * w)
+  room i n inside =
+      record { size = h.cap * w; held = lives; inside = omega (arith, add-mul i n w, mul-le-mul_right w inside) }
 
-  room-one : (i : ℕ) → i < h.cap → Regular al s → Room al s g h.at (i * w) w
-  room-one i inside regular = subst (λ n. Room al s g h.at (i * w) n) (one-mul w) (room i 1 (omega arith) regular)
+  room-one : (i : ℕ) → i < h.cap → Room al s g h.at (i * w) w
+  room-one i inside = subst (λ n. Room al s g h.at (i * w) n) (one-mul w) (room i 1 (omega arith))
 
   pub getting : (i : ℕ) → i < h.len → (r : Result K Fault) → (Room al s g h.at (i * w) w → Reads al kind s g h.at (i * w) r) → Acts al w (Getting kind i) v s (some_of r) v s
-  getting i less (Ok x) told regular =
-      let loaded = told (room-one i (omega arith) regular) in
+  getting i less (Ok x) told =
+      let loaded = told (room-one i (omega arith)) in
       record {
         events = loads_of g (i * w) (source al s g h.at (i * w) kind) w;
         run = loaded.run;
         rule = live lives (got x less (loaded.value ∙ sym (get_or-map-range_with_len (element_at kind (state al s).memory h.at) 0 h.len i i x less (omega arith))));
       }
-  getting i less (Err fault) told regular =
-      let (why, cut) = told (room-one i (omega arith) regular) in
+  getting i less (Err fault) told =
+      let (why, cut) = told (room-one i (omega arith)) in
       record { events = loads_cut g (i * w) (source al s g h.at (i * w) kind) cut.n; run = cut.run; rule = rw why (live lives (get_cut cut.n less cut.less)) }
 
   pub popping : 0 < h.len → (r : Result K Fault) → (Room al s g h.at ((h.len - 1) * w) w → Reads al kind s g h.at ((h.len - 1) * w) r) → Acts al w (Popping kind) v s (some_of r) (resized_if v (h.len - 1) r) s
-  popping some (Ok x) told regular =
-      let loaded = told (room-one (h.len - 1) (omega arith) regular) in
+  popping some (Ok x) told =
+      let loaded = told (room-one (h.len - 1) (omega arith)) in
       let f = element_at kind (state al s).memory h.at in
       let is_len : h.len ≡ h.len - 1 + 1 = omega arith in
       let split : map f (range_with_len 0 h.len) ≡ map f (range_with_len 0 (h.len - 1)) ++ x ∷ [] =
       ap (λ n. map f (range_with_len 0 n)) is_len ∙ map-range_with_len_more f 0 (h.len - 1) (h.len - 1) (omega arith)
       ∙ ap (λ y. map f (range_with_len 0 (h.len - 1)) ++ y ∷ []) (sym loaded.value) in
       record { events = loads_of g ((h.len - 1) * w) (source al s g h.at ((h.len - 1) * w) kind) w; run = loaded.run; rule = live lives (popped x some split) }
-  popping some (Err fault) told regular =
-      let (why, cut) = told (room-one (h.len - 1) (omega arith) regular) in
+  popping some (Err fault) told =
+      let (why, cut) = told (room-one (h.len - 1) (omega arith)) in
       record { events = loads_cut g ((h.len - 1) * w) (source al s g h.at ((h.len - 1) * w) kind) cut.n; run = cut.run; rule = rw why (live lives (pop_cut cut.n some cut.less)) }
 
   module _ (exact : (x : K) → length (kind.packed x) ≡ kind.wide) (again : (x : K) → kind.unpacked (kind.packed x) ≡ x) (s' : Session A) where
     pub extending : (xs : List K) → length xs ≤ h.cap - h.len → (r : Result (Unit {0}) Fault) →
         (Room al s g h.at (h.len * w) (length xs * w) → Writes al s g h.at (h.len * w) (packings kind xs) (length xs * w) r s') →
         Acts al w (Extending kind xs) v s r (resized_if v (h.len + length xs) r) s'
-    extending xs fits (Ok u) told regular =
-        let stored = told (room h.len (length xs) (omega (arith, h.fits)) regular) in
+    extending xs fits (Ok u) told =
+        let stored = told (room h.len (length xs) (omega (arith, h.fits))) in
         record {
           events = stores_of g (h.len * w) (packings kind xs) (length xs * w);
           run = stored.run;
           rule = live lives (extended fits (elements-extended kind exact again (state al s).memory (state al s').memory h.at h.len xs stored.laid.there (λ to low. stored.laid.elsewhere to (inl low))));
         }
-    extending xs fits (Err fault) told regular =
-        let (why, cut) = told (room h.len (length xs) (omega (arith, h.fits)) regular) in
+    extending xs fits (Err fault) told =
+        let (why, cut) = told (room h.len (length xs) (omega (arith, h.fits))) in
         record {
           events = stores_cut g (h.len * w) (packings kind xs) cut.n;
           run = cut.run;
@@ -132,15 +134,15 @@ module _ {A K : Type 0} (al : Ghosts A) (kind : kinds.Ghosts K) (h : Header) (s 
 
     pub setting : (i : ℕ) (x : K) → i < h.len → (r : Result (Unit {0}) Fault) → (Room al s g h.at (i * w) (1 * w) → Writes al s g h.at (i * w) (packings kind (x ∷ [])) (1 * w) r s') →
         Acts al w (Setting kind i x) v s r v s'
-    setting i x less (Ok u) told regular =
-        let stored = told (room i 1 (omega (arith, h.fits)) regular) in
+    setting i x less (Ok u) told =
+        let stored = told (room i 1 (omega (arith, h.fits))) in
         record {
           events = stores_of g (i * w) (packings kind (x ∷ [])) (1 * w);
           run = stored.run;
           rule = live lives (replaced less (elements-replaced kind exact again (state al s).memory (state al s').memory h.at h.len i stored.laid.elsewhere x less stored.laid.there));
         }
-    setting i x less (Err fault) told regular =
-        let (why, cut) = told (room i 1 (omega (arith, h.fits)) regular) in
+    setting i x less (Err fault) told =
+        let (why, cut) = told (room i 1 (omega (arith, h.fits))) in
         record {
           events = stores_cut g (i * w) (packings kind (x ∷ [])) cut.n;
           run = cut.run;
@@ -150,10 +152,10 @@ module _ {A K : Type 0} (al : Ghosts A) (kind : kinds.Ghosts K) (h : Header) (s 
 
   module _ (s' : Session A) where
     pub closing : Performs al s (pop g) done s' → Acts al w Closing v s (Ok tt) v s'
-    closing performs regular = record { events = event (pop g) done ∷ []; run = visited opened performs; rule = live lives (closed h.some) }
+    closing performs = record { events = event (pop g) done ∷ []; run = visited opened performs; rule = live lives (closed h.some) }
 
     pub closing-refused : (fault : session.Fault) → Performs al s (pop g) (refused fault) s' → Acts al w Closing v s (Err (Nested fault)) v s'
-    closing-refused fault performs regular = record { events = event (pop g) (refused fault) ∷ []; run = visited opened performs; rule = live lives (stays fault h.some) }
+    closing-refused fault performs = record { events = event (pop g) (refused fault) ∷ []; run = visited opened performs; rule = live lives (stays fault h.some) }
 
 -- opening
 served-live : {s : State} {size align n at : ℕ} {s' : State} → Step s (push size align) (granted n at) s' → s'.live ≡ new_span n at size align ∷ s.live
@@ -166,11 +168,11 @@ module _ {A K : Type 0} (al : Ghosts A) (kind : kinds.Ghosts K) (cap : ℕ) (s s
   less-as : cap * kind.wide ≤ 16777216
   less-as = subst (λ n. cap * n ≤ 16777216) e less
 
-  pub opening : (g : Grant) (at : ℕ) → Performs al s (push (cap * w') a') (granted g.number at) s' → Regular al s →
+  pub opening : (g : Grant) (at : ℕ) → Performs al s (push (cap * w') a') (granted g.number at) s' →
       Went al s s' (λ events. Opening kind cap (state al s) (Ok (new_vector (Some g) at cap 0)) events (state al s'))
-  opening g at performs regular =
+  opening g at performs =
       let did = performs-as (granted g.number at) performs in
-      let spans = served-live (performed regular did).step in
+      let spans = served-live did.step in
       let held : Held (state al s').live g.number at (cap * kind.wide) =
       subst (λ l. Held l g.number at (cap * kind.wide)) (sym spans) (new_span g.number at (cap * kind.wide) kind.aligned, inl refl, refl, refl, refl) in
       record {
@@ -179,9 +181,9 @@ module _ {A K : Type 0} (al : Ghosts A) (kind : kinds.Ghosts K) (cap : ℕ) (s s
         rule = placed g at some less-as held;
       }
 
-  pub opening-refused : (fault : session.Fault) → Performs al s (push (cap * w') a') (refused fault) s' → Regular al s →
+  pub opening-refused : (fault : session.Fault) → Performs al s (push (cap * w') a') (refused fault) s' →
       Went al s s' (λ events. Opening kind cap (state al s) (Err (Nested fault)) events (state al s'))
-  opening-refused fault performs regular =
+  opening-refused fault performs =
       record {
         events = event (push (cap * kind.wide) kind.aligned) (refused fault) ∷ [];
         run = visited opened (performs-as (refused fault) performs);

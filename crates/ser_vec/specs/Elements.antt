@@ -5,7 +5,6 @@ use Rattle.allocator.specs.Memory.{Memory, byte_at}
 use Rattle.allocator.specs.declared.Allocator.{Ghosts}
 use Rattle.allocator.specs.declared.fault.Fault.TheVariants.{Address}
 use Rattle.kind.specs.declared.Kind as kinds
-use Rattle.session.specs.Ledger.{Span, Among}
 use Rattle.session.specs.Calls.{Event, event, load, store, done, byte, refused}
 use Rattle.session.specs.Steps.{State}
 use Rattle.session.specs.Sessions.{state}
@@ -45,10 +44,6 @@ stores_cut grant offset bs n = event (store grant (offset + n) (slice_index bs n
 abbrev pub loads_cut : ℕ → ℕ → List ℕ → ℕ → List Event
 loads_cut grant offset bs n = event (load grant (offset + n)) (refused (Allocator Address)) ∷ loads_of grant offset bs n
 
--- a grant is one live span's
-abbrev pub Unique : List Span → Type 0
-Unique live = (one other : Span) → Among one live → Among other live → one.grant ≡ other.grant → one ≡ other
-
 -- the first n of some bytes stand from an address on, and nothing else differs
 pub record Laid (s : State) (at : ℕ) (bs : List ℕ) (n : ℕ) (s' : State) : Type 0 where
   pub live : s'.live ≡ s.live
@@ -57,14 +52,8 @@ pub record Laid (s : State) (at : ℕ) (bs : List ℕ) (n : ℕ) (s' : State) : 
   pub elsewhere : (to : ℕ) → (to < at) ⊎ (at + n ≤ to) → byte_at s'.memory to ≡ byte_at s.memory to
 
 module _ {A : Type 0} (allocator : Ghosts A) where
-  -- A session over a sound allocator, in which a grant is one span's: so it is after every run from the opening of a session over one.
-  pub record Regular (s : Session A) : Type 0 where
-    pub sound : allocator.sound s.inner
-    pub unique : Unique (state allocator s).live
-
   -- a live span has the grant and the address, and room for n bytes from the offset on
   pub record Room (s : Session A) (grant at offset n : ℕ) : Type 0 where
-    pub regular : Regular s
     pub size : ℕ
     pub held : Held (state allocator s).live grant at size
     pub inside : offset + n ≤ size
@@ -74,7 +63,6 @@ module _ {A : Type 0} (allocator : Ghosts A) where
     pub record Stored (bs : List ℕ) (n : ℕ) (s' : Session A) : Type 0 where
       pub run : Run allocator s (stores_of grant offset bs n) s'
       pub laid : Laid (state allocator s) (at + offset) bs n (state allocator s')
-      pub regular : Regular s'
 
     pub record StoredCut (bs : List ℕ) (most : ℕ) (s' : Session A) : Type 0 where
       pub n : ℕ

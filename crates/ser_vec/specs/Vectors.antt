@@ -5,7 +5,7 @@ use Rattle.allocator.specs.declared.Allocator.{Ghosts}
 use Rattle.allocator.specs.declared.fault.Fault.TheVariants.{Size, Address}
 use Rattle.kind.specs.declared.Kind as kinds
 use Rattle.session.specs.Ledger.{Span}
-use Rattle.session.specs.Records.{Held}
+use Rattle.session.specs.Records.{Held, Unique}
 use Rattle.session.specs.Calls.{Event, event, push, pop, granted, done, refused}
 use Rattle.session.specs.Steps.{State}
 use Rattle.session.specs.Sessions.{state}
@@ -14,7 +14,7 @@ use Rattle.session.specs.declared.fault.Fault as session
 use Rattle.session.specs.declared.fault.Fault.TheVariants.{NotLive, Outside, Allocator}
 use Rattle.session.specs.declared.grant.Grant.{Grant}
 use Rattle.session.specs.declared.session.Session.{Session}
-use Rattle.ser_vec.specs.Elements.{bytes_at, element_at, packings, stores_of, stores_cut, loads_of, loads_cut, Unique, Regular}
+use Rattle.ser_vec.specs.Elements.{bytes_at, element_at, packings, stores_of, stores_cut, loads_of, loads_cut}
 use Rattle.ser_vec.specs.declared.fault.Fault.{Fault}
 use Rattle.ser_vec.specs.declared.fault.Fault.TheVariants.{Full, Session as Nested}
 use Rattle.ser_vec.specs.declared.header.Header.{Header}
@@ -137,12 +137,12 @@ pub record Went {A : Type 0} (allocator : Ghosts A) (s s' : Session A) (Of : Lis
   pub run : Run allocator s events s'
   pub rule : Of events
 
--- what a call did, in a session that is regular
+-- what a call did
 abbrev pub Acts : {A X : Type 0} → Ghosts A → ℕ → Rule X → Vector → Session A → Result X Fault → Vector → Session A → Type 0
-Acts allocator wide Does v s r v' s' = Regular allocator s → Went allocator s s' (λ events. Guarded wide Does v (state allocator s) r events v' (state allocator s'))
+Acts allocator wide Does v s r v' s' = Went allocator s s' (λ events. Guarded wide Does v (state allocator s) r events v' (state allocator s'))
 
 abbrev pub Opens : {A K : Type 0} → Ghosts A → kinds.Ghosts K → ℕ → Session A → Result Vector Fault → Session A → Type 0
-Opens allocator kind capacity s r s' = Regular allocator s → Went allocator s s' (λ events. Opening kind capacity (state allocator s) r events (state allocator s'))
+Opens allocator kind capacity s r s' = Went allocator s s' (λ events. Opening kind capacity (state allocator s) r events (state allocator s'))
 
 -- the answer of a closing, without the vector that a refusal hands back
 abbrev pub ended : {V : Type 0} → Result (Unit {0}) (V × Fault) → Result (Unit {0}) Fault

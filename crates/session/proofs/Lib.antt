@@ -1,5 +1,5 @@
 pub mod Blocks
-mod Records
+pub mod Records
 mod Steps
 mod Owns
 mod Rounding

@@ -5,7 +5,7 @@ use Rattle.ser_vec.proofs.Stores.{failed, stored-none, stored-more, stored-cut, 
 use Rattle.ser_vec.proofs.element.write.Goals as goal
 
 pub loop-j-init : goal.loop-j-init
-loop-j-init g c room = stored-none g.A.Allocator _ _ _ _ _ room.regular
+loop-j-init g c room = stored-none g.A.Allocator _ _ _ _ _
 
 pub loop-j-preserved : goal.loop-j-preserved
 loop-j-preserved g c room =

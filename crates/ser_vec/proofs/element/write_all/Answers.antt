@@ -4,7 +4,7 @@ use Rattle.ser_vec.proofs.Stores.{failed, stored-none, next-stored, next-cut}
 use Rattle.ser_vec.proofs.element.write_all.Goals as goal
 
 pub loop-i-init : goal.loop-i-init
-loop-i-init g c room = rw zero-mul (stored-none g.A.Allocator _ _ _ _ _ room.regular)
+loop-i-init g c room = rw zero-mul (stored-none g.A.Allocator _ _ _ _ _)
 
 pub loop-i-preserved : goal.loop-i-preserved
 loop-i-preserved g c room =

@@ -7,10 +7,10 @@ use Rattle.ser_vec.proofs.Vectors.{opening, opening-refused}
 use Rattle.ser_vec.proofs.vector.SerVec.with_capacity.Goals as goal
 
 pub returns-then-cap-eq0 : goal.returns-then-cap-eq0
-returns-then-cap-eq0 g c regular = record { events = []; run = opened; rule = bare c.if-cap-eq0.true }
+returns-then-cap-eq0 g c = record { events = []; run = opened; rule = bare c.if-cap-eq0.true }
 
 pub returns-then-cap-width : goal.returns-then-cap-width
-returns-then-cap-width g c regular =
+returns-then-cap-width g c =
     let some : 0 < c.width-width.result = omega (arith, g.met.K.Kind.narrow.0, c.width-width.ensures) in
     let large : 16777216 < c.args.cap * c.width-width.result = (div-lt_iff_lt-mul some).0 c.if-cap-width.true in
     record { events = []; run = opened; rule = too_large (subst (λ n. 16777216 < c.args.cap * n) c.width-width.ensures large) }
