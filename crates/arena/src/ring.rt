@@ -74,6 +74,7 @@ impl Ring {
         ensures { chain self.new.records.items ≡ record { base = address; size = size } ∷ chain self.old.records.items }
     {
         let n = self.records.len();
+        // taken out and put back: after a write through last_mut in a branch, no fact names the records
         if let Some(last) = self.records.pop() {
             self.records.push(BlockRecord { next: n, ..last });
         }
