@@ -5,9 +5,8 @@ use mir.Val.{bool_byte}
 use Rattle.std.specs.Option.{MatchOption, ok_or}
 use Rattle.std.proofs.lemmas.Bool.{cases_Bool, cases_lt, and_from, le-leb, lt-ltb, lt-leb, leb-true, eqb-true, cond-true, cond-false, both_ways}
 use Rattle.allocator.specs.Layouts.{pad}
-use Rattle.allocator.specs.Memory.{Block, Memory, taken, fits, full}
+use Rattle.allocator.specs.Memory.{Block, Memory, spans, taken, fits, full}
 use Rattle.allocator.specs.Answers.{asked, Push, fitted, further, refused, Pop}
-use Rattle.allocator.proofs.Spans.{spans-from}
 use Rattle.allocator.specs.declared.fault.Cause.TheVariants as cause
 use Rattle.allocator.specs.declared.fault.Fault.{Fault}
 use Rattle.allocator.specs.declared.fault.Fault.TheVariants.{DoesNotFit, Address}
@@ -144,12 +143,12 @@ beyond a a' used used' size align (Err fault) k k' unfit w = elim (cases_lt 6710
 ]
 
 -- a pop from the newest block
-pub popped-newest : (bs : List Outstanding) (ps : List Place) (p : Place) (qs : List Place) (used at : ℕ) → ps ≡ p ∷ qs → taken (memory_of bs ps used) at ≡ true → p.base + 16 ≤ at → at < p.base + 16 + used →
+pub popped-newest : (bs : List Outstanding) (ps : List Place) (p : Place) (qs : List Place) (used at : ℕ) → ps ≡ p ∷ qs → taken (memory_of bs ps used) at ≡ true → spans (p.base + 16) used at ≡ true →
     Pop (memory_of bs ps used) at (Ok tt) (memory_of bs ps (at - (p.base + 16)))
-popped-newest bs ps p qs used at first on low high =
+popped-newest bs ps p qs used at first on inside =
     record {
       answer = sym (cond-true _ _ _ on);
-      after = rw first (ap (λ (b : Block). b ∷ olders bs qs) (sym (cond-true _ _ _ (spans-from (p.base + 16) used at low high))));
+      after = rw first (ap (λ (b : Block). b ∷ olders bs qs) (sym (cond-true _ _ _ inside)));
     }
 
 -- how large the block is that follows the newest
@@ -203,7 +202,6 @@ answered-ok E x a a' want at t = rw (taken-blocks a a' want at t) refl
 
 -- an opening that asked the source
 module _ (a a' : Arena) (cap size : ℕ) (empty : opened a.blocks ≡ false) (small : cap ≤ 16777216) (l : LeastPower (cap + 16) size) where
-
   pub opening-high : size ≤ 67108864
   opening-high = least-small (cap + 16) size l (omega arith)
 
@@ -246,7 +244,6 @@ module _ (a a' : Arena) (n last least size align sz al used : ℕ) (some : opene
         }
 
     module _ (at padding sz' : ℕ) (t : Takes a n (Ok at) a') (pad_is : padding ≡ pad (at + 16) align) (many : sz' ≡ size) where
-
       pub granted-extends : Extends a used size align (Ok (at + 16 + padding)) a' (padding + sz')
       granted-extends =
           record {

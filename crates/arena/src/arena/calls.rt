@@ -140,11 +140,10 @@ impl<S: BlockSource> Arena<S> {
         ensures gave { Gave S.gives self.source (blocks_of self.ring) result }
     {
         let Arena {
-            source,
+            mut source,
             ring,
-            growths: _,
+            ..
         } = self;
-        let mut source = source;
         give_back(&mut source, ring.records());
         source
     }
@@ -156,7 +155,7 @@ impl<S: BlockSource> ArenaHandle<S> {
         ensures source { result.source ≡ self.arena.source }
         ensures state { idle_of S.state result ≡ handle_of S.state self }
     {
-        let ArenaHandle { arena, used: _ } = self;
+        let ArenaHandle { arena, .. } = self;
         arena
     }
 
@@ -224,8 +223,8 @@ impl<S: BlockSource> Allocator for ArenaHandle<S> {
         let top = tail.address + 16 + self.used;
         let pad = layout.align_offset(top);
         let wanted = pad + layout.size();
-        if wanted <= tail.size - 16 - self.used {
-            self.used = self.used + wanted;
+        if wanted <= tail.room() - self.used {
+            self.used += wanted;
             return Ok(top + pad);
         }
         self.grow(tail.size, layout)
@@ -235,9 +234,8 @@ impl<S: BlockSource> Allocator for ArenaHandle<S> {
     fn pop_alloc(&mut self, at: usize, _layout: Layout) -> Result<(), Fault> {
         self.taken(at)?;
         if let Some(tail) = self.arena.ring.tail() {
-            let start = tail.address + 16;
-            if start <= at && at < start + self.used {
-                self.used = at - start;
+            if tail.covers(self.used, at) {
+                self.used = at - (tail.address + 16);
             }
         }
         Ok(())

@@ -15,8 +15,8 @@ returns-in_err-tail-clause-rule g c =
     let none = err-none (blocks_of c.args.self.now.arena.ring ≡ []) (λ (b : BlockRecord). Newest c.args.self.now.arena.ring.records.items b) c.tail.result _ _ c.in_err-tail.ensures.value c.tail.ensures in
     rw (p.1, p.2, none.1) (unserved (g.S.BlockSource.state h.arena.source).blocks (blocks_of h.arena.ring) h.used c.args.layout.size c.args.layout.align none.0)
 
-pub returns-then-wanted-tail-clause-serves : goal.returns-then-wanted-tail-clause-serves
-returns-then-wanted-tail-clause-serves g c =
+pub returns-then-wanted-room-clause-serves : goal.returns-then-wanted-room-clause-serves
+returns-then-wanted-room-clause-serves g c =
     let h = c.args.self.now in
     let s = g.S.BlockSource.state h.arena.source in
     let lawful = g.S.BlockSource.lawful h.arena.source in
