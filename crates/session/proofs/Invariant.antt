@@ -157,7 +157,7 @@ furthered start ledger m live given inv size align sized aligning b at first fil
 -- a pop
 popped-placed : (start : Memory) (most : ℕ) (m : Memory) (span : Span) (live : List Span) → Lawful m →
     Placed start most m (span ∷ live) → Placed start most (popped m span.at) live
-popped-placed start most [] span live lawful e = absurd (let z : ◌≡◌ {A = ℕ} 0 1 = cc in omega arith)
+popped-placed start most [] span live lawful e = absurd cc
 popped-placed start most (b ∷ older) span live (mark, end, apart, all, lawful) (from, low, room, tight) = elim (tight-first tight) [
   | inl (there, some, rest) ↦
       let at : ℕ = span.at in

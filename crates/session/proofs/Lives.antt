@@ -66,7 +66,7 @@ stored-same (b ∷ older) at v =
 pub served-same : (m : Memory) (size align at : ℕ) (after : Memory) → Push m size align (Ok at) after → Same m after ⊎ ((b : Block) × (after ≡ b ∷ full m))
 served-same m size align at after (allocators.fitted fit answer is) = inl (subst (λ x. Same m x) (sym is) (pushed-same m size align))
 served-same m size align at after (allocators.further unfit block answer ends is) = inr (block, is)
-served-same m size align at after (allocators.refused unfit cause answer is) = absurd (let z : ◌≡◌ {A = ℕ} 0 1 = cc in omega arith)
+served-same m size align at after (allocators.refused unfit cause answer is) = absurd cc
 
 step-same : {s s' : State} {call : Call} {answer : Answer} → Step s call answer s' → length s'.memory ≡ length s.memory → Same s.memory s'.memory
 step-same {s = s} (refuses why) e = unchanged s.memory

@@ -17,7 +17,7 @@ use Rattle.session.specs.declared.live.LiveSpan.{LiveSpan}
 -- where `ok_or` gives an error, there was nothing
 pub nothing : {X E : Type 0} (o : Option X) (e f : E) → Err f ≡ ok_or o e → (o ≡ None) × (f ≡ e)
 nothing None e f is = (refl, cc)
-nothing (Some x) e f is = absurd (let z : ◌≡◌ {A = ℕ} 0 1 = cc in omega arith)
+nothing (Some x) e f is = absurd cc
 
 pub live-length : (spans : List LiveSpan) → length (live spans) ≡ length spans
 live-length spans = length-map (reverse spans) recorded ∙ length-reverse spans
@@ -28,11 +28,11 @@ live-more spans span = ap (map recorded) (reverse-append spans (span ∷ []))
 
 pub live-none : (spans : List LiveSpan) → slice_get spans (length spans - 1) ≡ None → live spans ≡ []
 live-none [] last = refl
-live-none (first ∷ spans) last = absurd (let is = slice_get-get_or (first ∷ spans) (length (first ∷ spans) - 1) first (omega arith) in let z : ◌≡◌ {A = ℕ} 0 1 = cc in omega arith)
+live-none (first ∷ spans) last = absurd (let is = slice_get-get_or (first ∷ spans) (length (first ∷ spans) - 1) first (omega arith) in cc)
 
 pub live-newest : (spans : List LiveSpan) (newest : LiveSpan) → slice_get spans (length spans - 1) ≡ Some newest →
     live spans ≡ recorded newest ∷ live (take (length spans - 1) spans)
-live-newest [] newest last = absurd (let z : ◌≡◌ {A = ℕ} 0 1 = cc in omega arith)
+live-newest [] newest last = absurd cc
 live-newest (first ∷ spans) newest last =
     let all = first ∷ spans in
     let count : length all - 1 + 1 ≡ length all = omega arith in

@@ -60,7 +60,7 @@ pop-answered {s = s} separation span older newest e (pops other rest is on) =
 pub pop-newest-answered : {ledger : Ledger} {s s' : State} {answer : Answer} → Separation ledger s → (span : Span) (older : List Span) → s.live ≡ span ∷ older →
     Step s pop_newest answer s' → (answer ≡ done) × (s' ≡ new_state (popped s.memory span.at) older s.given)
 pop-newest-answered separation span older newest (refuses (pop_newest_untaken other rest is off)) = absurd (separation.reached _ _ (refuses (pop_newest_untaken other rest is off)))
-pop-newest-answered separation span older newest (refuses (nothing_live none)) = absurd (let z : ◌≡◌ {A = ℕ} 0 1 = cc in omega arith)
+pop-newest-answered separation span older newest (refuses (nothing_live none)) = absurd cc
 pop-newest-answered {s = s} separation span older newest (pops_newest other rest is on) =
     let first : other ≡ span = cc in
     let after : rest ≡ older = cc in

@@ -22,10 +22,10 @@ use Rattle.session.proofs.Blocks.{high-untaken, popped-untaken}
 -- what an allocator's answer tells of the address
 pub accepted : {X : Type 0} (t : Bool) {x y : X} → Ok y ≡ cond t (Ok x) (Err Address) → (t ≡ true) × (x ≡ y)
 accepted true e = (refl, cc)
-accepted false e = absurd (let z : ◌≡◌ {A = ℕ} 0 1 = cc in omega arith)
+accepted false e = absurd cc
 
 pub declined : {X : Type 0} (t : Bool) (x : X) {f : Fault} → Err f ≡ cond t (Ok x) (Err Address) → (t ≡ false) × (f ≡ Address)
-declined true x e = absurd (let z : ◌≡◌ {A = ℕ} 0 1 = cc in omega arith)
+declined true x e = absurd cc
 declined false x e = (refl, cc)
 
 -- loads and stores at the address that was found for an offset
@@ -106,7 +106,7 @@ pop-by-grant {s = s} (refuses (pop_newest_untaken span' older' is off)) span old
     let first : span' ≡ span = cc in
     let eg : span'.grant ≡ grant = ap (λ (x : Span). x.grant) first ∙ e in
     subst (λ g. Step s (pop g) (refused (Allocator Address)) s) eg (refuses (pop_untaken span' older' is off))
-pop-by-grant (refuses (nothing_live none)) span older newest grant e = absurd (let z : ◌≡◌ {A = ℕ} 0 1 = cc in omega arith)
+pop-by-grant (refuses (nothing_live none)) span older newest grant e = absurd cc
 pop-by-grant {s = s} (pops_newest span' older' is there) span older newest grant e =
     let first : span' ≡ span = cc in
     let eg : span'.grant ≡ grant = ap (λ (x : Span). x.grant) first ∙ e in
@@ -121,8 +121,8 @@ push-unlaid s size align Address bad = absurd bad
 
 -- an allocator refuses a push only as not fitting, and keeps its memory
 pub push-refused : (m m' : Memory) (size align : ℕ) (f : Fault) → Push m size align (Err f) m' → ((cause : Cause) × (f ≡ DoesNotFit cause)) × (m' ≡ m) × (fits m size align ≡ false)
-push-refused m m' size align f (allocators.fitted fit answer after) = absurd (let z : ◌≡◌ {A = ℕ} 0 1 = cc in omega arith)
-push-refused m m' size align f (allocators.further fit block answer ends after) = absurd (let z : ◌≡◌ {A = ℕ} 0 1 = cc in omega arith)
+push-refused m m' size align f (allocators.fitted fit answer after) = absurd cc
+push-refused m m' size align f (allocators.further fit block answer ends after) = absurd cc
 push-refused m m' size align f (allocators.refused fit cause answer after) = ((cause, cc), after, fit)
 
 module _ (s : State) (l : Layout) {size align : ℕ} (es : l.size ≡ size) (ea : l.align ≡ align) where

@@ -36,7 +36,7 @@ served-kept start ledger s inv size align at after sized aligning (allocators.fu
     let first : at ≡ block.base + pad block.base align = cc in
     subst (λ m. Inv start (fed ledger (adds (new_span (suc s.given) at size align))) (new_state m (new_span (suc s.given) at size align ∷ s.live) (suc s.given))) (sym is)
     (furthered start ledger s.memory s.live s.given inv size align sized aligning block at first (omega arith) (subst Lawful is lawful))
-served-kept start ledger s inv size align at after sized aligning (allocators.refused unfit cause answer is) lawful = absurd (let z : ◌≡◌ {A = ℕ} 0 1 = cc in omega arith)
+served-kept start ledger s inv size align at after sized aligning (allocators.refused unfit cause answer is) lawful = absurd cc
 
 pop-kept : (start : Memory) (ledger : Ledger) (s : State) → Inv start ledger s → (span : Span) (older : List Span) → s.live ≡ span ∷ older →
     Lawful (popped s.memory span.at) → Inv start (fed ledger removes) (new_state (popped s.memory span.at) older s.given)
@@ -92,12 +92,12 @@ further-unfit m size align at after (allocators.refused unfit cause answer is) m
 -- a strained push does not fit in the newest block
 strained-unfit : {s s' : State} {answer : Answer} {size align : ℕ} → Step s (push size align) answer s' → Strained s answer s' →
     Sized size × Aligning align × (fits s.memory size align ≡ false)
-strained-unfit {s = s} (refuses (bad_size bad)) strained = absurd (let is = (strained-refused s _ strained).1 in let z : ◌≡◌ {A = ℕ} 0 1 = cc in omega arith)
-strained-unfit {s = s} (refuses (bad_align sized bad)) strained = absurd (let is = (strained-refused s _ strained).1 in let z : ◌≡◌ {A = ℕ} 0 1 = cc in omega arith)
-strained-unfit {s = s} (refuses (full sized aligning all)) strained = absurd (let is = (strained-refused s _ strained).1 in let z : ◌≡◌ {A = ℕ} 0 1 = cc in omega arith)
+strained-unfit {s = s} (refuses (bad_size bad)) strained = absurd (let is = (strained-refused s _ strained).1 in cc)
+strained-unfit {s = s} (refuses (bad_align sized bad)) strained = absurd (let is = (strained-refused s _ strained).1 in cc)
+strained-unfit {s = s} (refuses (full sized aligning all)) strained = absurd (let is = (strained-refused s _ strained).1 in cc)
 strained-unfit {s = s} {size = size} {align = align} (refuses (does_not_fit sized aligning room cause rule)) strained =
     (sized, aligning, (push-refused s.memory s.memory size align (DoesNotFit cause) rule).2)
-strained-unfit (serves sized aligning room rule) (inl (cause, is)) = absurd (let z : ◌≡◌ {A = ℕ} 0 1 = cc in omega arith)
+strained-unfit (serves sized aligning room rule) (inl (cause, is)) = absurd cc
 strained-unfit {s = s} {size = size} {align = align} (serves {at = at} {after = after} sized aligning room rule) (inr more) =
     (sized, aligning, further-unfit s.memory size align at after rule more)
 

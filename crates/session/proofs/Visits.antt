@@ -31,7 +31,7 @@ module _ {A : Type 0} {al : Ghosts A} {first s₀ : Session A} {events : List Ev
         (answered, ap (λ (x : State). x.live) after)
 
     pub stored : {s₂ : Session A} {value : ℕ} {f : Fault} → Performs al s₁ (store grant 0 value) (refused f) s₂ → ⊥
-    stored p₂ = let never = (stores p₂).0 in let z : ◌≡◌ {A = ℕ} 0 1 = cc in omega arith
+    stored p₂ = let never = (stores p₂).0 in cc
 
     module _ {s₂ : Session A} {value : ℕ} (p₂ : Performs al s₁ (store grant 0 value) done s₂) where
       separation₂ : Separation (ledger_of (event (store grant 0 value) done ∷ event (push 1 1) (granted grant at) ∷ events)) (state al s₂)
@@ -41,7 +41,7 @@ module _ {A : Type 0} {al : Ghosts A} {first s₀ : Session A} {events : List Ev
       reads {answer = answer} p₃ = (separation₂.reads (new_span grant at 1 1) (inl refl) 0 value (omega arith) (inl (refl, refl, refl))).1 answer _ p₃.step
 
       pub loaded : {f : Fault} → Performs al s₂ (load grant 0) (refused f) s₂ → ⊥
-      loaded p₃ = let never = reads p₃ in let z : ◌≡◌ {A = ℕ} 0 1 = cc in omega arith
+      loaded p₃ = let never = reads p₃ in cc
 
       pops : {s₃ : Session A} {answer : Answer} → Performs al s₂ (pop grant) answer s₃ → (answer ≡ done) × ((state al s₃).live ≡ (state al s₀).live)
       pops p₄ =
@@ -51,7 +51,7 @@ module _ {A : Type 0} {al : Ghosts A} {first s₀ : Session A} {events : List Ev
 
       pub accepted : {s₃ : Session A} (r : Result (Unit {0}) (Grant × Fault)) → Performs al s₂ (pop grant) (popped r) s₃ → r ≡ Ok tt
       accepted (Ok u) p₄ = refl
-      accepted (Err e) p₄ = absurd (let never = (pops p₄).0 in let z : ◌≡◌ {A = ℕ} 0 1 = cc in omega arith)
+      accepted (Err e) p₄ = absurd (let never = (pops p₄).0 in cc)
 
       pub ends : {read : ℕ} → Performs al s₂ (load grant 0) (byte read) s₂ → {s₃ : Session A} {answer : Answer} → Performs al s₂ (pop grant) answer s₃ → RoundTrip al s₀ value (Ok read) s₃
       ends p₃ p₄ =

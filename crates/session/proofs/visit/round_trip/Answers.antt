@@ -1,4 +1,3 @@
-use Rattle.std.proofs.Common.{◌≡◌, ℕ, arith}
 use Rattle.std.proofs.lemmas.Result.{err_from_is_err_and}
 use Rattle.session.proofs.Visits.{unserved, stored, loaded, accepted, ends}
 use Rattle.session.proofs.visit.round_trip.Goals as goal
@@ -18,7 +17,7 @@ pub returns-in_err-map_err : goal.returns-in_err-map_err
 returns-in_err-map_err g c first events here =
     let ok = accepted here c.in_ok-grant.ensures c.in_ok-store.ensures c.pop.result c.pop.ensures.step in
     let never = rw ok at c.in_err-map_err.ensures.cases in
-    absurd (let z : ◌≡◌ {A = ℕ} 0 1 = cc in omega arith)
+    absurd cc
 
 pub returns : goal.returns
 returns g c first events here = ends here c.in_ok-grant.ensures c.in_ok-store.ensures c.in_ok-read.ensures c.pop.ensures.step
