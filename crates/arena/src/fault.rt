@@ -8,11 +8,11 @@ use std::fmt;
 
 #[derive(Clone, Copy, Debug, PartialEq, Eq)]
 pub enum ArenaFault {
-    AlreadyOpened,
+    AlreadyOpened = 9,
     // no block has so much room
-    Capacity,
+    Capacity = 10,
     // the source was asked, and gave no block
-    NoBlock,
+    NoBlock = 12,
 }
 
 impl ArenaFault {
@@ -20,11 +20,7 @@ impl ArenaFault {
     pub fn number(self) -> u32
         ensures { result ≡ refusal self }
     {
-        match self {
-            ArenaFault::AlreadyOpened => 9,
-            ArenaFault::Capacity => 10,
-            ArenaFault::NoBlock => 12,
-        }
+        self as u32
     }
 }
 

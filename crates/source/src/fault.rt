@@ -7,11 +7,11 @@ use allocator::{Cause, Fault};
 #[derive(Clone, Copy, Debug, PartialEq, Eq)]
 pub enum SourceFault {
     // no block has that size
-    BlockSize,
+    BlockSize = 10,
     // the source has no such block to give
-    NoBlock,
+    NoBlock = 12,
     // no block is out at that address
-    Address,
+    Address = 13,
 }
 
 impl SourceFault {
@@ -19,11 +19,7 @@ impl SourceFault {
     pub fn number(self) -> u32
         ensures { result ≡ refusal self }
     {
-        match self {
-            SourceFault::BlockSize => 10,
-            SourceFault::NoBlock => 12,
-            SourceFault::Address => 13,
-        }
+        self as u32
     }
 }
 
