@@ -57,6 +57,7 @@ impl Region {
         ensures { Lowest (usable (length self.now.bytes.items)) (chain self.now.slots.items) size result }
     {
         let room = self.len().checked_sub(size)?;
+        // No chain: its closures would have to bound the offsets again.
         for k in 0..room / 16 + 1 {
             let base = 4096 + 16 * k;
             let block = Slot { base, size };

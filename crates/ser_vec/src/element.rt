@@ -19,6 +19,7 @@ pub(crate) fn write<K: Kind, A: Allocator>(
     ensures { Room A.Allocator session.old header.now.grant.number header.now.at (index * K.Kind.wide) (1 * K.Kind.wide) → Writes A.Allocator session.old header.now.grant.number header.now.at (index * K.Kind.wide) (packings K.Kind (x ∷ [])) (1 * K.Kind.wide) result session.new }
 {
     let offset = index * K::width();
+    // by index, as a kind gives its bytes
     for j in 0..K::width() {
         session.store(&header.grant, offset + j, x.byte(j))?;
     }

@@ -12,7 +12,7 @@ pub enum Fault {
 }
 
 impl Fault {
-    // The number that users know the refusal by.
+    // The number that users know the refusal by. It is no discriminant, since a variant has a payload.
     pub fn number(self) -> u32
         ensures { result ≡ refusal self }
     {
