@@ -3,7 +3,6 @@ ghost use Rattle.std.specs.Prelude.{◌≡◌, ◌-◌, ◌≤◌, [], ◌∷◌
 ghost use Rattle.session.specs.Sessions.{state};
 ghost use Rattle.ser_vec.specs.Vectors.{plain, Lives, Tested, Extending, Setting, Getting, Popping, Reserving, Telling, Clearing, Closing, Acts, Opens, ended};
 
-use crate::element::{read, write, write_all};
 use crate::fault::Fault;
 use crate::header::Header;
 use allocator::Allocator;
@@ -137,7 +136,7 @@ impl<K: Kind> SerVec<K> {
     {
         self.reserve(session, other.len())?;
         if let Some(header) = &mut self.header {
-            write_all(session, header, header.len, other)?;
+            header.write_all(session, header.len, other)?;
             header.len += other.len();
         }
         Ok(())
@@ -150,7 +149,7 @@ impl<K: Kind> SerVec<K> {
         self.live(session)?;
         match &mut self.header {
             Some(header) if header.len > 0 => {
-                let x = read(session, header, header.len - 1)?;
+                let x = header.read(session, header.len - 1)?;
                 header.len -= 1;
                 Ok(Some(x))
             }
@@ -164,7 +163,7 @@ impl<K: Kind> SerVec<K> {
     {
         self.reserve(session, 1)?;
         if let Some(header) = &mut self.header {
-            write(session, header, header.len, value)?;
+            header.write(session, header.len, value)?;
             header.len += 1;
         }
         Ok(())
@@ -175,7 +174,7 @@ impl<K: Kind> SerVec<K> {
     {
         self.live(session)?;
         match &self.header {
-            Some(header) if index < header.len => Ok(Some(read(session, header, index)?)),
+            Some(header) if index < header.len => Ok(Some(header.read(session, index)?)),
             _ => Ok(None),
         }
     }
@@ -190,7 +189,7 @@ impl<K: Kind> SerVec<K> {
     {
         self.live(session)?;
         match &self.header {
-            Some(header) if index < header.len => write(session, header, index, value),
+            Some(header) if index < header.len => header.write(session, index, value),
             _ => Err(Fault::Session(session::Fault::Outside)),
         }
     }

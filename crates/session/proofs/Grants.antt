@@ -1,12 +1,8 @@
 -- Live spans by their grants, and the stores through them.
 use Rattle.std.proofs.Common.{◌≡◌, ℕ, suc, ◌<◌, ◌≤◌, List, [], ◌∷◌, sym, ap, ◌∙◌, subst, inl, inr, arith}
 use Rattle.session.specs.Ledger.{Span, Note, Among, LastStored}
+use Rattle.session.specs.Records.{Numbered}
 use Rattle.session.specs.Laws.{Separate, Each, AllSeparate}
-
--- newer spans have higher grants, all below `next`
-abbrev pub Numbered : ℕ → List Span → Type 0
-Numbered next [] = Unit {0}
-Numbered next (span ∷ rest) = (span.grant < next) × Numbered span.grant rest
 
 -- no store was through a grant above `given`
 abbrev pub Early : ℕ → List Note → Type 0

@@ -13,7 +13,8 @@ use Rattle.session.specs.Laws.{Aligned, Each, AllSeparate, untaken, capacity}
 use Rattle.session.proofs.Rounding.{up, up-above, up-within}
 use Rattle.session.proofs.Blocks.{within-from, byte_at-further, length-full, full-in, length-popped, byte_at-popped, length-written, stored-in, length-stored, byte_at-stored, byte_at-other}
 use Rattle.session.proofs.Stack.{Lies, Tight, bottom, atop, tight-first, tight-low, tight-raised, tight-moved, tight-lies, tight-separate, Taken, tight-taken}
-use Rattle.session.proofs.Grants.{Numbered, Early, each-at, each-map, numbered-below, numbered-more, unique, separate-at, early-last, early-more}
+use Rattle.session.specs.Records.{Numbered}
+use Rattle.session.proofs.Grants.{Early, each-at, each-map, numbered-below, numbered-more, unique, separate-at, early-last, early-more}
 
 -- the live spans lie in the newest block from where its untaken part began, or in older ones
 abbrev pub Placed : Memory → ℕ → Memory → List Span → Type 0

@@ -49,14 +49,12 @@ store-inside (stores span other byte here less on) grant offset value is_call is
     (span, here, named, subst (λ (n : ℕ). n < span.size) same less)
 
 module _ {A : Type 0} (al : Ghosts A) where
-  regular-granted : {s : Session A} → Regular al s → (span : Span) → Among span (state al s).live → span.grant ≤ (state al s).given
-  regular-granted {s} regular span here =
-      let inv = run-kept _ (run-trace al regular.first _ regular.fresh regular.run) in
-      omega (arith, numbered-below (suc (state al s).given) (state al s).live span inv.numbered here)
+  granted : (s : Session A) (span : Span) → Among span (state al s).live → span.grant ≤ s.given
+  granted s span here = omega (arith, numbered-below (s.given + 1) (state al s).live span s.numbered here)
 
-  run-given : {s s' : Session A} {events : List Event} → Regular al s → Run al s events s' → (state al s).given ≤ (state al s').given
-  run-given regular opened = omega arith
-  run-given regular (visited run performs) = omega (arith, run-given regular run, given-rises performs.step)
+  run-given : {s s' : Session A} {events : List Event} → Run al s events s' → s.given ≤ s'.given
+  run-given opened = omega arith
+  run-given (visited run performs) = omega (arith, run-given run, given-rises performs.step)
 
   -- one call leaves the bytes of a live span whose grant it does not store through
   step-lasts : {s : Session A} (s' : Session A) {call : Call} {answer : Answer} → Regular al s → Step (state al s) call answer (state al s') →
@@ -83,6 +81,6 @@ module _ {A : Type 0} (al : Ghosts A) where
   lasting regular opened span here there none at low high = refl
   lasting {s} {s'} regular (visited {s = s₁} run performs) span here there (not, none) at low high =
       let between = regular-after al regular run in
-      let old : span.grant ≤ (state al s₁).given = omega (arith, regular-granted regular span here, run-given regular run) in
+      let old : span.grant ≤ (state al s₁).given = omega (arith, granted s span here, run-given run) in
       let middle : Among span (state al s₁).live = lived performs.step span old there in
       step-lasts s' between performs.step span middle not at low high ∙ lasting regular run span here middle none at low high

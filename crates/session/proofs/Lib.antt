@@ -1,9 +1,9 @@
 pub mod Blocks
-pub mod Records
 mod Steps
 mod Owns
 mod Rounding
 mod Grants
+pub mod Records
 mod Stack
 mod Invariant
 mod Traces

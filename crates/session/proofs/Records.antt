@@ -9,9 +9,10 @@ use Rattle.std.specs.Prelude.{◌==◌, ◌&&◌, nat_lt, slice_get, MatchOption
 use mathlib.Core.List.{reverse_aux}
 use Rattle.session.specs.Ledger.{Span, Among}
 use Rattle.allocator.specs.declared.Allocator.{Ghosts}
-use Rattle.session.specs.Records.{recorded, live, numbered, Unique, NotAmong, Found}
+use Rattle.session.specs.Records.{recorded, live, Unique, NotAmong, Found}
 use Rattle.session.specs.Sessions.{state}
 use Rattle.session.specs.declared.session.Session.{Session}
+use Rattle.session.proofs.Grants.{unique}
 use Rattle.session.specs.declared.live.LiveSpan.{LiveSpan}
 
 -- where `ok_or` gives an error, there was nothing
@@ -58,46 +59,6 @@ module _ (grant : ℕ) where
     ]))
   ]
 
--- the grants of a record are numbered
-pub numbered-more : (spans : List Span) (given : ℕ) (span : Span) → span.grant ≡ given + 1 → numbered spans (given + 1) ≡ true → numbered (span ∷ spans) (span.grant + 1) ≡ true
-numbered-more spans given span is rises = rw is (and_from _ _ (lt-ltb (given + 1) (given + 1 + 1) (omega arith)) rises)
-
-below : (spans : List Span) (low high : ℕ) → low ≤ high → numbered spans low ≡ true → numbered spans high ≡ true
-below [] low high le rises = refl
-below (span ∷ older) low high le rises =
-    let parts = and_parts (nat_lt span.grant low) (numbered older span.grant) rises in
-    and_from _ _ (lt-ltb span.grant high (omega (arith, ltb-true span.grant low parts.0))) parts.1
-
-pub numbered-less : (spans older : List Span) (span : Span) (given : ℕ) → spans ≡ span ∷ older → numbered spans (given + 1) ≡ true → numbered older (given + 1) ≡ true
-numbered-less spans older span given is rises =
-    let parts = and_parts (nat_lt span.grant (given + 1)) (numbered older span.grant) (rw is at rises) in
-    below older span.grant (given + 1) (omega (arith, ltb-true span.grant (given + 1) parts.0)) parts.1
-
-among-below : (spans : List Span) (limit : ℕ) (span : Span) → numbered spans limit ≡ true → Among span spans → span.grant < limit
-among-below [] limit span rises none = absurd none
-among-below (first ∷ older) limit span rises here =
-    let parts = and_parts (nat_lt first.grant limit) (numbered older first.grant) rises in
-    let less = ltb-true first.grant limit parts.0 in
-    elim here [
-      | inl is ↦ omega (arith, ap (λ (x : Span). x.grant) is)
-      | inr there ↦ omega (arith, among-below older first.grant span parts.1 there)
-    ]
-
-numbered-unique : (spans : List Span) (limit : ℕ) → numbered spans limit ≡ true → Unique spans
-numbered-unique [] limit rises one other none there same = absurd none
-numbered-unique (first ∷ older) limit rises one other one-in other-in same =
-    let parts = and_parts (nat_lt first.grant limit) (numbered older first.grant) rises in
-    elim one-in [
-      | inl is ↦ elim other-in [
-        | inl is' ↦ is ∙ sym is'
-        | inr there ↦ absurd (omega (arith, ap (λ (x : Span). x.grant) is, among-below older first.grant other parts.1 there))
-      ]
-      | inr here ↦ elim other-in [
-        | inl is' ↦ absurd (omega (arith, ap (λ (x : Span). x.grant) is', among-below older first.grant one parts.1 here))
-        | inr there ↦ numbered-unique older first.grant parts.1 one other here there same
-      ]
-    ]
-
 -- in every session a grant is one live span's
 pub grants-unique : {A : Type 0} (al : Ghosts A) (s : Session A) → Unique (state al s).live
-grants-unique al s = numbered-unique (live s.spans.items) (s.given + 1) s.numbered
+grants-unique al s one other = unique (s.given + 1) (live s.spans.items) one other s.numbered

@@ -15,12 +15,12 @@ use Rattle.session.specs.Runs.{opened, visited}
 use Rattle.session.specs.Growth as Growth
 use Rattle.session.specs.Growth.{LeastPower}
 use Rattle.session.specs.Figures.{Blocks, block, LandsOnPopped, GrowsAndPops, RefusesAndReads, GrowsOnce, SessionFigures}
-use Rattle.session.specs.Records.{live, numbered}
+use Rattle.session.specs.Records.{live, Numbered}
 use Rattle.session.specs.declared.live.LiveSpan.{LiveSpan}
 use Rattle.session.specs.declared.session.Session.{Session}
 
 -- a session over bare blocks, with these records
-abbrev session : (m : Memory) → Lawful m → (spans : List LiveSpan) (given : ℕ) → numbered (live spans) (given + 1) ≡ true → Session Blocks
+abbrev session : (m : Memory) → Lawful m → (spans : List LiveSpan) (given : ℕ) → Numbered (given + 1) (live spans) → Session Blocks
 session m lawful spans given rises = record { inner = record { memory = m; lawful = lawful }; spans = record { items = spans }; given = given; numbered = rises }
 
 abbrev span : ℕ → ℕ → (size align : ℕ) → Sized size → Aligning align → LiveSpan
@@ -58,12 +58,12 @@ lands =
     let s₂ = span 2 8 8 8 (omega arith, omega arith) eight in
     let s₃ = span 3 8 1 1 (omega arith, omega arith) one in
     record {
-      first = session (block 0 0 32 ∷ []) (alone 0 0 32 (omega arith) (omega arith)) [] 0 refl;
-      last = session (block 0 9 32 ∷ []) (alone 0 9 32 (omega arith) (omega arith)) (s₁ ∷ s₃ ∷ []) 3 refl;
+      first = session (block 0 0 32 ∷ []) (alone 0 0 32 (omega arith) (omega arith)) [] 0 tt;
+      last = session (block 0 9 32 ∷ []) (alone 0 9 32 (omega arith) (omega arith)) (s₁ ∷ s₃ ∷ []) 3 (omega arith, (omega arith, tt));
       opens = refl;
-      run = visited {s = session (block 0 8 32 ∷ []) (alone 0 8 32 (omega arith) (omega arith)) (s₁ ∷ []) 2 refl}
-          (visited {s = session (block 0 16 32 ∷ []) (alone 0 16 32 (omega arith) (omega arith)) (s₁ ∷ s₂ ∷ []) 2 refl}
-          (visited {s = session (block 0 1 32 ∷ []) (alone 0 1 32 (omega arith) (omega arith)) (s₁ ∷ []) 1 refl}
+      run = visited {s = session (block 0 8 32 ∷ []) (alone 0 8 32 (omega arith) (omega arith)) (s₁ ∷ []) 2 (omega arith, tt)}
+          (visited {s = session (block 0 16 32 ∷ []) (alone 0 16 32 (omega arith) (omega arith)) (s₁ ∷ s₂ ∷ []) 2 (omega arith, (omega arith, tt))}
+          (visited {s = session (block 0 1 32 ∷ []) (alone 0 1 32 (omega arith) (omega arith)) (s₁ ∷ []) 1 (omega arith, tt)}
           (visited opened (record {
             step = serve (block 0 0 32 ∷ []) [] 0 1 1 (omega arith, omega arith) one (omega arith) (omega arith) refl;
             own = tt;
@@ -97,12 +97,12 @@ grows =
     let s₁ = span 1 16 12 4 (omega arith, omega arith) four in
     let s₂ = span 2 64 24 8 (omega arith, omega arith) eight in
     record {
-      first = session (block 16 0 16 ∷ []) (alone 16 0 16 (omega arith) (omega arith)) [] 0 refl;
-      last = session (block 64 0 48 ∷ block 16 16 16 ∷ []) (both 0 (omega arith)) [] 2 refl;
+      first = session (block 16 0 16 ∷ []) (alone 16 0 16 (omega arith) (omega arith)) [] 0 tt;
+      last = session (block 64 0 48 ∷ block 16 16 16 ∷ []) (both 0 (omega arith)) [] 2 tt;
       opens = refl;
-      run = visited {s = session (block 64 0 48 ∷ block 16 16 16 ∷ []) (both 0 (omega arith)) (s₁ ∷ []) 2 refl}
-          (visited {s = session (block 64 24 48 ∷ block 16 16 16 ∷ []) (both 24 (omega arith)) (s₁ ∷ s₂ ∷ []) 2 refl}
-          (visited {s = session (block 16 12 16 ∷ []) (alone 16 12 16 (omega arith) (omega arith)) (s₁ ∷ []) 1 refl}
+      run = visited {s = session (block 64 0 48 ∷ block 16 16 16 ∷ []) (both 0 (omega arith)) (s₁ ∷ []) 2 (omega arith, tt)}
+          (visited {s = session (block 64 24 48 ∷ block 16 16 16 ∷ []) (both 24 (omega arith)) (s₁ ∷ s₂ ∷ []) 2 (omega arith, (omega arith, tt))}
+          (visited {s = session (block 16 12 16 ∷ []) (alone 16 12 16 (omega arith) (omega arith)) (s₁ ∷ []) 1 (omega arith, tt)}
           (visited opened (record {
             step = serve (block 16 0 16 ∷ []) [] 0 12 4 (omega arith, omega arith) four (omega arith) (omega arith) refl;
             own = tt;
@@ -129,11 +129,11 @@ only-first other (inr none) e = none
 reads : RefusesAndReads
 reads =
     let s₁ = span 1 0 8 8 (omega arith, omega arith) eight in
-    let there = session (block 0 8 16 ∷ []) (alone 0 8 16 (omega arith) (omega arith)) (s₁ ∷ []) 1 refl in
-    let stored = session (record { base = 0; mark = 8; bytes = 0 ∷ 0 ∷ 0 ∷ 7 ∷ 0 ∷ 0 ∷ 0 ∷ 0 ∷ 0 ∷ 0 ∷ 0 ∷ 0 ∷ 0 ∷ 0 ∷ 0 ∷ 0 ∷ [] } ∷ []) (omega arith, omega arith, (λ at e. refl), tt, tt) (s₁ ∷ []) 1 refl in
+    let there = session (block 0 8 16 ∷ []) (alone 0 8 16 (omega arith) (omega arith)) (s₁ ∷ []) 1 (omega arith, tt) in
+    let stored = session (record { base = 0; mark = 8; bytes = 0 ∷ 0 ∷ 0 ∷ 7 ∷ 0 ∷ 0 ∷ 0 ∷ 0 ∷ 0 ∷ 0 ∷ 0 ∷ 0 ∷ 0 ∷ 0 ∷ 0 ∷ 0 ∷ [] } ∷ []) (omega arith, omega arith, (λ at e. refl), tt, tt) (s₁ ∷ []) 1 (omega arith, tt) in
     let here : Span = new_span 1 0 8 8 in
     record {
-      first = session (block 0 0 16 ∷ []) (alone 0 0 16 (omega arith) (omega arith)) [] 0 refl;
+      first = session (block 0 0 16 ∷ []) (alone 0 0 16 (omega arith) (omega arith)) [] 0 tt;
       last = stored;
       opens = refl;
       run = visited {s = stored}

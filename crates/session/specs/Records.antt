@@ -1,5 +1,7 @@
 -- A session's record of its live spans, the oldest first.
-use Rattle.std.specs.Prelude.{◌≡◌, ℕ, ◌+◌, ◌-◌, ◌^◌, ◌<◌, ◌≤◌, min, Bool, true, ◌&&◌, List, [], ◌∷◌, map, reverse, ◌≢◌, nat_lt}
+use Rattle.std.specs.Prelude.{◌≡◌, ℕ, ◌+◌, ◌-◌, ◌^◌, ◌<◌, ◌≤◌, min, List, [], ◌∷◌, map, reverse, ◌≢◌}
+use mathlib.Core.HLevel.{Unit-prop, ×_prop}
+use native.Mathlib.Bridge.{le_prop}
 use Rattle.session.specs.Ledger.{Span, new_span, Among}
 use Rattle.session.specs.declared.fault.Fault.{Fault}
 use Rattle.session.specs.declared.fault.Fault.TheVariants.{NotNewest, NotLive, Full, Outside, Allocator}
@@ -12,10 +14,15 @@ recorded span = new_span span.grant span.at span.layout.size span.layout.align
 abbrev pub live : List LiveSpan → List Span
 live spans = map recorded (reverse spans)
 
--- each grant is below the limit and above those before it
-abbrev pub numbered : List Span → ℕ → Bool
-numbered [] limit = true
-numbered (span ∷ older) limit = nat_lt span.grant limit && numbered older span.grant
+-- newer spans have higher grants, all below the limit
+abbrev pub Numbered : ℕ → List Span → Type 0
+Numbered limit [] = Unit {0}
+Numbered limit (span ∷ older) = (span.grant < limit) × Numbered span.grant older
+
+-- it has one proof at most, so that it may stand in a type
+pub Numbered-prop : (limit : ℕ) (spans : List Span) → IsProp (Numbered limit spans)
+Numbered-prop limit [] = Unit-prop
+Numbered-prop limit (span ∷ older) = ×_prop le_prop (Numbered-prop span.grant older)
 
 -- a grant is one live span's
 abbrev pub Unique : List Span → Type 0

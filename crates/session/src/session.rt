@@ -1,6 +1,6 @@
 // An allocator in use, with a record of the live spans.
-ghost use Rattle.std.specs.Prelude.{◌≡◌, ◌+◌, true};
-ghost use Rattle.session.specs.Records.{live, numbered};
+ghost use Rattle.std.specs.Prelude.{◌+◌};
+ghost use Rattle.session.specs.Records.{live, Numbered, Numbered-prop};
 
 use crate::live::LiveSpan;
 use arrayvec::ArrayVec;
@@ -15,7 +15,7 @@ pub struct Session<A> {
     spans: ArrayVec<LiveSpan, MOST_LIVE>,
     // the number of the last grant
     given: u32,
-    ghost numbered: { numbered (live spans.items) (given + 1) ≡ true },
+    ghost numbered: { Numbered (given + 1) (live spans.items) } by { Numbered-prop (given + 1) (live spans.items) },
 }
 
 mod calls;

@@ -1,8 +1,10 @@
-use Rattle.std.proofs.Common.{refl, sym}
+use Rattle.std.proofs.Common.{◌+◌, ◌-◌, ◌∷◌, length, take, refl, sym}
 use Rattle.std.proofs.lemmas.Result.{err_from_is_err_and}
 use Rattle.session.specs.Steps.{refuses, nothing_live}
 use Rattle.session.specs.declared.fault.Fault.TheVariants.{NotLive}
-use Rattle.session.proofs.Records.{nothing, live-none, live-newest, numbered-less}
+use Rattle.session.proofs.Records.{nothing, live-none, live-newest}
+use Rattle.session.specs.Records.{recorded, live, Numbered}
+use Rattle.session.proofs.Grants.{numbered-more}
 use Rattle.session.proofs.Steps.{declined, pop-done, pop-faulted}
 use Rattle.session.proofs.Owns.{own-untaken}
 use Rattle.session.proofs.session.Session.pop_newest.Goals as goal
@@ -31,7 +33,8 @@ invariant_of-self-2 g c =
     let s = c.args.self.now in
     let last = rw (c.deref.ensures.0, c.in_ok-newest.ensures.ok_part) at c.last.ensures.value in
     let newest = live-newest s.spans.items c.in_ok-newest.field-0.now (sym last) in
-    rw c.pop.ensures.rest (record { numbered = numbered-less _ _ _ s.given newest s.numbered })
+    let rises : Numbered (s.given + 1) (recorded c.in_ok-newest.field-0.now ∷ live (take (length s.spans.items - 1) s.spans.items)) = rw newest at s.numbered in
+    rw c.pop.ensures.rest (record { numbered = numbered-more _ _ _ rises.0 rises.1 })
 
 pub returns : goal.returns
 returns g c =

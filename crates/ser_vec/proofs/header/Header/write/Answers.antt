@@ -2,7 +2,7 @@
 use Rattle.std.proofs.Common.{◌*◌, ◌<◌, [], ◌∷◌, subst, one-mul, arith}
 use Rattle.ser_vec.specs.Elements.{packings, Room, Writes}
 use Rattle.ser_vec.proofs.Stores.{failed, stored-none, stored-more, stored-cut, packing-of-one}
-use Rattle.ser_vec.proofs.element.write.Goals as goal
+use Rattle.ser_vec.proofs.header.Header.write.Goals as goal
 
 pub loop-j-init : goal.loop-j-init
 loop-j-init g c room = stored-none g.A.Allocator _ _ _ _ _
@@ -14,7 +14,7 @@ loop-j-preserved g c room =
 
 pub returns-in_err-store : goal.returns-in_err-store
 returns-in_err-store g c =
-    let h = c.args.header.now in
+    let h = c.args.self.now in
     let r = c.from_residual.result in
     let bs = packings g.K.Kind (c.args.x ∷ []) in
     let less : c.loop-j.j < 1 * g.K.Kind.wide = omega (arith, one-mul g.K.Kind.wide) in

@@ -1,7 +1,7 @@
 -- Each turn stores the packing of the next element.
 use Rattle.std.proofs.Common.{zero-mul, arith}
 use Rattle.ser_vec.proofs.Stores.{failed, stored-none, next-stored, next-cut}
-use Rattle.ser_vec.proofs.element.write_all.Goals as goal
+use Rattle.ser_vec.proofs.header.Header.write_all.Goals as goal
 
 pub loop-i-init : goal.loop-i-init
 loop-i-init g c room = rw zero-mul (stored-none g.A.Allocator _ _ _ _ _)

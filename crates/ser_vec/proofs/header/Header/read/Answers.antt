@@ -4,7 +4,7 @@ use Rattle.std.proofs.lemmas.Grind.{common_steps}
 use Rattle.ser_vec.specs.Elements.{Room, Reads, Loaded}
 use Rattle.ser_vec.proofs.Stores.{failed}
 use Rattle.ser_vec.proofs.Loads.{read-none, read-more, read-cut, read-all}
-use Rattle.ser_vec.proofs.element.read.Goals as goal
+use Rattle.ser_vec.proofs.header.Header.read.Goals as goal
 
 pub loop-j-init : goal.loop-j-init
 loop-j-init g c room = read-none g.A.Allocator g.K.Kind _ _ _ _ _
@@ -18,14 +18,14 @@ loop-j-preserved g c room =
 
 pub returns : goal.returns
 returns g c =
-    let h = c.args.header.now in
+    let h = c.args.self.now in
     let n = g.met.K.Kind.narrow in
     subst (λ w. Room g.A.Allocator c.args.session.now h.grant.number h.at (c.args.index * w) g.K.Kind.wide → Loaded g.A.Allocator c.args.session.now h.grant.number h.at (c.args.index * w) g.K.Kind c.unpack.result) c.width.ensures
     (λ room. read-all g.A.Allocator g.K.Kind c.args.session.now _ _ _ c.loop-j.j c.loop-j.byte-items (grind (arith, common_steps, n)) (omega arith) c.unpack.result (grind (arith, common_steps, n)) (c.loop-j.invariant room))
 
 pub returns-in_err-byte : goal.returns-in_err-byte
 returns-in_err-byte g c =
-    let h = c.args.header.now in
+    let h = c.args.self.now in
     let r = c.from_residual.result in
     let n = g.met.K.Kind.narrow in
     let less : c.loop-j.j < g.K.Kind.wide = grind (arith, common_steps, n) in

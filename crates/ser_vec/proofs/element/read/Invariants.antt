@@ -1,7 +1,0 @@
--- After j turns the buffer begins with the first j bytes of the element.
-use Rattle.ser_vec.specs.Elements.{Room}
-use Rattle.ser_vec.proofs.Loads.{Read}
-use Rattle.ser_vec.proofs.element.read.Given as goal
-
-abbrev pub invariant-loop-j : goal.invariant-loop-j
-invariant-loop-j g l = Room g.A.Allocator l.session l.header.grant.number l.header.at l.offset g.K.Kind.wide → Read g.A.Allocator g.K.Kind l.session l.header.grant.number l.header.at l.offset l.j l.byte-items
