@@ -1,10 +1,9 @@
 -- An opening and its refusals, from what an arena's calls promise.
-use Rattle.std.proofs.Common.{◌≡◌, ℕ, ◌+◌, ◌<◌, ◌≤◌, true, false, List, [], ◌∷◌, length, Ok, Err, Result, sym, refl, ap, ◌∙◌, subst, inl, inr, arith}
-use Rattle.std.proofs.lemmas.Bool.{cases_lt, lt-leb, le-leb}
-use Rattle.source.specs.Blocks.{Place, refused}
+use Rattle.std.proofs.Common.{◌≡◌, ℕ, ◌+◌, ◌≤◌, true, List, [], ◌∷◌, length, Ok, Result, sym, ap, ◌∙◌, subst, inl, inr, arith}
+use Rattle.std.proofs.lemmas.Bool.{cases_lt, le-leb}
+use Rattle.source.specs.Blocks.{Place}
 use Rattle.source.specs.declared.BlockSource.{Ghosts}
 use Rattle.source.specs.declared.fault.SourceFault.{SourceFault}
-use Rattle.source.specs.declared.fault.SourceFault.TheVariants as source
 use Rattle.arena.specs.Rings.{newest_size, rising, opened}
 use Rattle.arena.specs.Powers.{least_power_of}
 use Rattle.arena.specs.Arenas as arenas
@@ -14,20 +13,13 @@ use Rattle.arena.specs.Keeps.{rise}
 use Rattle.arena.specs.Views.{idle_of}
 use Rattle.arena.specs.declared.arena.Arena.{Arena}
 use Rattle.arena.specs.declared.fault.ArenaFault.{ArenaFault}
-use Rattle.uses.specs.Openings.{Opened, Unopened}
+use Rattle.uses.specs.Openings.{Opened}
 use Rattle.uses.specs.Lives.{ArenaLaw}
 use Rattle.uses.proofs.Rests.{Rest, rest-opened}
 use Rattle.uses.proofs.Lives.{arena_law}
 
-gave-none : {S : Type 0} {gives : S → ℕ → Result (Unit {0}) SourceFault → S → Type 0} {s t : S} {ps : List Place} → ps ≡ [] → Gave gives s ps t → t ≡ s
-gave-none none done = refl
-gave-none none (next given rest) = absurd (omega (arith, ap length none))
-
 opens-asks : (ps : List Place) (cap : ℕ) → ps ≡ [] → cap ≤ 16777216 → opening ps cap ≡ true
 opens-asks ps cap none small = rw none (le-leb cap 16777216 small)
-
-opens-none : (ps : List Place) (cap : ℕ) → ps ≡ [] → 16777216 < cap → opening ps cap ≡ false
-opens-none ps cap none large = rw none (lt-leb cap 16777216 large)
 
 -- an arena that is not opened was made over the source, and an opening of it answered so
 pub record Asked {S : Type 0} (from : Ghosts S) (s : S) (cap : ℕ) (r : Result (Unit {0}) ArenaFault) (a a' : Arena S from) : Type 0 where
@@ -64,23 +56,3 @@ module _ {S : Type 0} (from : Ghosts S) (s : S) (cap : ℕ) (a a' : Arena S from
       let rises = subst (λ (ps : List Place). rising ps ≡ true) alone a'.ring.rises in
       arena_law from a' (omega (arith, ap newest_size alone, (rise p [] rises).some))
       (subst (λ (n : ℕ). Rest (newest_size (blocks_of a'.ring)) (from.state a'.source).blocks (blocks_of a'.ring) n 0) (sym none) rest)
-
-  pub unopened-answer : (fault : ArenaFault) (s' : S) → Asked from s cap (Err fault) a a' → Gave from.gives a'.source (blocks_of a'.ring) s' → Unopened from s cap fault s'
-  unopened-answer fault s' asked gave =
-      let none : blocks_of a.ring ≡ [] = ap (λ (x : arenas.Arena). x.blocks) asked.new in
-      let shut = ap opened none in
-      record {
-        large = λ large.
-            let (e, same) = asked.opens.large shut large in
-            let back : s' ≡ a'.source = gave-none (ap (λ (x : arenas.Arena). x.blocks) same ∙ none) gave in
-            (cc, back ∙ asked.consulted.same (opens-none (blocks_of a.ring) cap none large) ∙ asked.is);
-        dry = λ small.
-            let (e, after) = asked.opens.asks shut small in
-            let back : s' ≡ a'.source = gave-none (ap (λ (x : arenas.Arena). x.blocks) after ∙ none) gave in
-            let chosen = asked.consulted.chosen (opens-asks (blocks_of a.ring) cap none small) in (
-              e,
-              ap from.state back ∙ ap (λ (x : arenas.Arena). x.source) after ∙ ap (λ (x : arenas.Arena). refused x.source (least_power_of (cap + 16))) asked.new,
-              subst (λ (x : S). from.chooses s (least_power_of (cap + 16)) (Err source.NoBlock) x) (sym back)
-                  (subst (λ (x : S). from.chooses x (least_power_of (cap + 16)) (Err source.NoBlock) a'.source) asked.is chosen),
-            );
-      }
