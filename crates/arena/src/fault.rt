@@ -24,6 +24,7 @@ impl ArenaFault {
     }
 }
 
+// As every refusal that is printed; each type has an impl of its own, since a macro may write none.
 impl fmt::Display for ArenaFault {
     ghost output = { λ f. Some (refusal_text f) };
 

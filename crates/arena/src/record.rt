@@ -7,6 +7,7 @@ ghost use Rattle.allocator.specs.Memory.{spans};
 pub struct BlockRecord {
     pub address: usize,
     pub size: usize,
+    // By index, since the memory is fixed; that each block is linked to the next is a rule of the product.
     pub next: usize,
 }
 

@@ -51,7 +51,7 @@ impl Letter {
     }
 }
 
-/// The letter that the character writes; a character that writes none is refused.
+/// The letter that the character writes; a character that writes none is refused. By a table, as a variant has no character for its number.
 impl TryFrom<char> for Letter {
     type Error = Fault;
 
@@ -120,6 +120,7 @@ impl Fault {
     }
 }
 
+// As every refusal that is printed; each type has an impl of its own, since a macro may write none.
 impl fmt::Display for Fault {
     ghost output = { λ f. Some (refusal_text f) };
 

@@ -7,7 +7,7 @@ use cards::Letter;
 use session::Fault;
 use std::fmt;
 
-// What was done for an entry: a push has its address, and a pop is done.
+// What was done for an entry: a push has its address, and a pop is done. No Option, since a pop that is done is no absence, and each has its text.
 #[derive(Clone, Copy, PartialEq, Eq, Debug)]
 pub enum Answer {
     At(usize),

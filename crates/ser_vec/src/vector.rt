@@ -214,6 +214,7 @@ impl<K: Kind> SerVec<K> {
         else {
             return Ok(());
         };
+        // No map_err: its closure would have to be told again what the header's type says of cap and len.
         match session.pop(grant) {
             Ok(()) => Ok(()),
             Err((grant, fault)) => Err((

@@ -34,6 +34,7 @@ impl Fault {
     }
 }
 
+// As every refusal that is printed; each type has an impl of its own, since a macro may write none.
 impl fmt::Display for Fault {
     ghost output = { λ f. Some (refusal_text f) };
 

@@ -17,6 +17,7 @@ pub use figures::buffer_figures;
 pub struct SubAllocator<'a> {
     bytes: &'a mut [u8],
     base: usize,
+    // The mark: how many of the usable bytes are taken. No Vec, since the buffer is the caller's.
     used: usize,
     ghost low: { base < 140737488355328 },
     ghost inside: { used ≤ room bytes.now },

@@ -26,6 +26,7 @@ pub fn open<S: BlockSource>(source: S, cap: usize) -> Result<Arena<S>, (ArenaFau
     ensures law { IfOk result (λ a. ArenaLaw S.BlockSource a) }
 {
     let mut arena = Arena::new(source);
+    // no map_err: both arms move the arena
     match arena.with_capacity(cap) {
         Ok(()) => Ok(arena),
         Err(fault) => Err((fault, arena.close())),
@@ -51,7 +52,8 @@ pub fn leave<S: BlockSource>(session: Session<ArenaHandle<S>>) -> Arena<S>
     session.finish().release()
 }
 
-// Begins a use of the arena: a session over a tracker of its handle.
+// Begins a use of the arena: a session over a tracker of its handle. Beside `enter`, since a tracker has statistics to promise and to answer: a trait
+// over both would need two impls for two lines.
 pub fn begin<S: BlockSource>(arena: Arena<S>) -> Session<AllocationTracker<ArenaHandle<S>>>
     ensures acquired { Acquired S.BlockSource arena result.inner.inner }
     ensures stats { result.inner.stats ≡ unused }
