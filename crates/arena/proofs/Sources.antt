@@ -9,7 +9,7 @@ use Rattle.source.specs.Answers.{Store}
 use Rattle.source.specs.declared.fault.SourceFault.{SourceFault}
 use Rattle.source.specs.Blocks.{Outstanding, Place, Source, Apart, Lawful, inside, within, without, contents, byte_at, stored, having}
 use Rattle.arena.specs.Rings.{rising, room, newest, before}
-use Rattle.arena.specs.Meaning.{usable, olders, memory_of, Differs, Kept}
+use Rattle.arena.specs.Meaning.{usable, olders, memory_of, Loaded, Differs, Kept}
 use Rattle.arena.specs.Arenas.{given_back}
 use Rattle.arena.specs.Keeps.{rise, contents-other, within-contents, usable-length}
 
@@ -53,11 +53,7 @@ byte-contents (b ∷ bs) a at l low high = elim (cases_Bool (eqb b.base a)) [
 
 -- a taken byte of the arena's memory is the source's
 module _ (bs : List Outstanding) (l : Lawful bs) where
-  pub record Loaded (m : Memory) (at : ℕ) : Type 0 where
-    pub within : within bs at ≡ true
-    pub byte : memory.byte_at m at ≡ byte_at bs at
-
-  here : (p : Place) (mark at : ℕ) (rest : Memory) → memory.inside (usable bs p mark) at ≡ true → Loaded (usable bs p mark ∷ rest) at
+  here : (p : Place) (mark at : ℕ) (rest : Memory) → memory.inside (usable bs p mark) at ≡ true → Loaded bs (usable bs p mark ∷ rest) at
   here p mark at rest in' =
       let x = spans-true (p.base + 16) (length (drop 16 (contents bs p.base))) at in' in
       let u = length-drop 16 (contents bs p.base) in
@@ -67,7 +63,7 @@ module _ (bs : List Outstanding) (l : Lawful bs) where
         byte = rw in' (get_or-drop 16 (contents bs p.base) (at - (p.base + 16)) 0 ∙ (ap (λ (n : ℕ). get_or (contents bs p.base) n 0) j ∙ sym (byte-contents bs p.base at l (omega arith) (omega arith))));
       }
 
-  there : (p : Place) (mark at : ℕ) (rest : Memory) → Loaded rest at → Loaded (usable bs p mark ∷ rest) at
+  there : (p : Place) (mark at : ℕ) (rest : Memory) → Loaded bs rest at → Loaded bs (usable bs p mark ∷ rest) at
   there p mark at rest w = elim (cases_Bool (memory.inside (usable bs p mark) at)) [
     | inl in' ↦ here p mark at rest in'
     | inr out ↦ record { within = w.within; byte = rw out w.byte }
@@ -79,14 +75,14 @@ module _ (bs : List Outstanding) (l : Lawful bs) where
       let u = usable-length bs p e in
       spans-from (p.base + 16) (length (drop 16 (contents bs p.base))) at x.0 (omega arith)
 
-  older-loaded : (ps : List Place) (at : ℕ) → Kept bs ps → memory.taken (olders bs ps) at ≡ true → Loaded (olders bs ps) at
+  older-loaded : (ps : List Place) (at : ℕ) → Kept bs ps → memory.taken (olders bs ps) at ≡ true → Loaded bs (olders bs ps) at
   older-loaded [] at k on = absurd (true≢false (sym on))
   older-loaded (p ∷ ps) at k on = elim (or_cases (memory.taken_in (usable bs p (p.size - 16)) at) (memory.taken (olders bs ps) at) on) [
     | inl b ↦ here p (p.size - 16) at (olders bs ps) (taken-inside p (p.size - 16) at k.0 (omega arith) b)
     | inr b ↦ there p (p.size - 16) at (olders bs ps) (older-loaded ps at k.2 b)
   ]
 
-  pub loaded : (ps : List Place) (used at : ℕ) → Kept bs ps → used ≤ room ps → memory.taken (memory_of bs ps used) at ≡ true → Loaded (memory_of bs ps used) at
+  pub loaded : (ps : List Place) (used at : ℕ) → Kept bs ps → used ≤ room ps → memory.taken (memory_of bs ps used) at ≡ true → Loaded bs (memory_of bs ps used) at
   loaded [] used at k m on = absurd (true≢false (sym on))
   loaded (p ∷ ps) used at k m on = elim (or_cases (memory.taken_in (usable bs p used) at) (memory.taken (olders bs ps) at) on) [
     | inl b ↦ here p used at (olders bs ps) (taken-inside p used at k.0 m b)

@@ -6,14 +6,15 @@ use Rattle.std.specs.Option.{MatchOption, ok_or}
 use Rattle.std.proofs.lemmas.Bool.{cases_Bool, cases_lt, and_from, le-leb, lt-ltb, lt-leb, leb-true, eqb-true, cond-true, cond-false, both_ways}
 use Rattle.allocator.specs.Layouts.{pad}
 use Rattle.allocator.specs.Memory.{Block, Memory, spans, taken, fits, full}
-use Rattle.allocator.specs.Answers.{asked, Push, fitted, further, refused, Pop}
+use Rattle.allocator.specs.Answers.{Push, fitted, further, refused, Pop}
 use Rattle.allocator.specs.declared.fault.Cause.TheVariants as cause
 use Rattle.allocator.specs.declared.fault.Fault.{Fault}
-use Rattle.allocator.specs.declared.fault.Fault.TheVariants.{DoesNotFit, Address}
-use Rattle.source.specs.Answers.{Take, Load, Store, sized}
-use Rattle.source.specs.Blocks.{Outstanding, Place, Source, within, byte_at, contents, granted}
+use Rattle.allocator.specs.declared.fault.Fault.TheVariants.{DoesNotFit}
+use Rattle.source.specs.Answers.{Take, sized}
+use Rattle.source.specs.Blocks.{Outstanding, Place, Source, contents, granted}
 use Rattle.source.specs.declared.fault.SourceFault.{SourceFault}
-use Rattle.arena.specs.Rings.{rising, opened, room, counted, newest, newest_size}
+use Rattle.arena.specs.declared.record.BlockRecord.{BlockRecord}
+use Rattle.arena.specs.Rings.{chain, Newest, rising, opened, room, counted, newest, newest_size}
 use Rattle.arena.specs.Meaning.{usable, olders, memory_of, Kept}
 use Rattle.arena.specs.Powers.{LeastPower, least_power_of, wanted}
 use Rattle.arena.specs.Arenas.{Arena, Consulted, Taken, Takes, dry}
@@ -23,7 +24,7 @@ use Rattle.arena.specs.Faults as faults
 use Rattle.arena.specs.declared.fault.ArenaFault.{ArenaFault}
 use Rattle.source.specs.Faults as sources
 use Rattle.arena.specs.Keeps.{rise, contents-same, usable-length}
-use Rattle.arena.proofs.Table.{least-is, least-small}
+use Rattle.arena.proofs.Table.{least-is}
 use Rattle.arena.proofs.Sources.{granted-differs, granted-kept, granted-olders, full-olders}
 
 -- what the source answered to a request of a size that a block may have
@@ -57,13 +58,6 @@ module _ (s s' : Source) (size : ℕ) (some : 0 < size) (small : size ≤ 671088
           ◌≡◌ {A = Arena} (record { source = s'; blocks = record { base = at; size = size } ∷ ps; growths = n + bool_byte (opened ps) }) (arenas.extended (record { source = s; blocks = ps; growths = n }) (record { base = at; bytes = bytes }))
       extends [] n bytes many e = rw (e, many, add-zero n) refl
       extends (p ∷ ps) n bytes many e = rw (e, many) refl
-
--- the source loads and stores each byte that is within its blocks
-pub never-loads : (s : Source) (at : ℕ) (fault : SourceFault) → within s.blocks at ≡ true → Load s at (Err fault) → ⊥
-never-loads s at fault w l = let q : Err fault ≡ Ok (byte_at s.blocks at) = l ∙ cond-true _ _ _ w in let z : ◌≡◌ {A = ℕ} 0 1 = cc in omega arith
-
-pub never-stores : (s s' : Source) (at v : ℕ) (fault : SourceFault) → within s.blocks at ≡ true → Store s at v (Err fault) s' → ⊥
-never-stores s s' at v fault w l = let q : Err fault ≡ Ok tt = l.answer ∙ cond-true _ _ _ w in let z : ◌≡◌ {A = ℕ} 0 1 = cc in omega arith
 
 -- growths are counted exactly: there are 22 at most
 pub few-growths : (n : ℕ) (ps : List Place) → counted n ps ≡ true → rising ps ≡ true → n ≤ 22
@@ -156,26 +150,22 @@ pub wanted-is : (n last least size align s a : ℕ) → n ≡ max (2 * last) lea
 wanted-is n last least size align s a m l e f = rw (sym e, sym f) (m ∙ ap (λ (x : ℕ). max (2 * last) x) (least-is (16 + s + a) least l))
 
 -- what `ok_or` passed on, and what it refused
-pub ok-some : {X E : Type 0} (N : Type 0) (P : X → Type 0) (o : Option X) (x : X) (e : E) → Ok x ≡ ok_or o e → MatchOption o N P → P x
+ok-some : {X E : Type 0} (N : Type 0) (P : X → Type 0) (o : Option X) (x : X) (e : E) → Ok x ≡ ok_or o e → MatchOption o N P → P x
 ok-some N P None x e is m = let z : ◌≡◌ {A = ℕ} 0 1 = cc in absurd (omega arith)
 ok-some N P (Some y) x e is m = let same : y ≡ x = cc in subst P same m
 
-pub err-none : {X E : Type 0} (N : Type 0) (P : X → Type 0) (o : Option X) (f e : E) → Err f ≡ ok_or o e → MatchOption o N P → N × (f ≡ e)
+err-none : {X E : Type 0} (N : Type 0) (P : X → Type 0) (o : Option X) (f e : E) → Err f ≡ ok_or o e → MatchOption o N P → N × (f ≡ e)
 err-none N P None f e is m = (m, cc)
 err-none N P (Some y) f e is m = let z : ◌≡◌ {A = ℕ} 0 1 = cc in absurd (omega arith)
 
+pub tail-some : {E : Type 0} (rs : List BlockRecord) (o : Option BlockRecord) (b : BlockRecord) (e : E) → Ok b ≡ ok_or o e → MatchOption o (chain rs ≡ []) (λ x. Newest rs x) → Newest rs b
+tail-some rs o b e is m = ok-some (chain rs ≡ []) (λ (x : BlockRecord). Newest rs x) o b e is m
+
+pub tail-none : {E : Type 0} (rs : List BlockRecord) (o : Option BlockRecord) (f e : E) → Err f ≡ ok_or o e → MatchOption o (chain rs ≡ []) (λ x. Newest rs x) → (chain rs ≡ []) × (f ≡ e)
+tail-none rs o f e is m = err-none (chain rs ≡ []) (λ (x : BlockRecord). Newest rs x) o f e is m
+
 pub least-some : {E : Type 0} (n : ℕ) (o : Option ℕ) (x : ℕ) (e : E) → Ok x ≡ ok_or o e → MatchOption o (67108864 < n) (LeastPower n) → LeastPower n x
 least-some n o x e is m = ok-some (67108864 < n) (LeastPower n) o x e is m
-
--- an address that was not refused is taken, and one that was is not
-pub asked-taken : (m : Memory) (at : ℕ) {x : Unit {0}} → Ok x ≡ asked m at tt → taken m at ≡ true
-asked-taken m at is = elim (cases_Bool (taken m at)) [ inl on ↦ on | inr off ↦ (let e : ◌≡◌ {A = Result (Unit {0}) Fault} (Ok tt) (Err Address) = is ∙ cond-false _ _ _ off in let z : ◌≡◌ {A = ℕ} 0 1 = cc in absurd (omega arith)) ]
-
-pub asked-untaken : (m : Memory) (at : ℕ) (f : Fault) → ◌≡◌ {A = Result (Unit {0}) Fault} (Err f) (asked m at tt) → (taken m at ≡ false) × (f ≡ Address)
-asked-untaken m at f is = elim (cases_Bool (taken m at)) [
-  | inl on ↦ (let e : ◌≡◌ {A = Result (Unit {0}) Fault} (Err f) (Ok tt) = is ∙ cond-true _ _ _ on in let z : ◌≡◌ {A = ℕ} 0 1 = cc in absurd (omega arith))
-  | inr off ↦ (let e : ◌≡◌ {A = Result (Unit {0}) Fault} (Err f) (Err Address) = is ∙ cond-false _ _ _ off in (off, cc))
-]
 
 -- what a source was asked, and what it answered
 pub asked-so : {S : Type 0} {chooses : S → ℕ → Result ℕ SourceFault → S → Type 0} {asked : Bool} {s s' : S} {want want' : ℕ} {answer answer' : Result ℕ SourceFault} →
@@ -202,9 +192,6 @@ answered-ok E x a a' want at t = rw (taken-blocks a a' want at t) refl
 
 -- an opening that asked the source
 module _ (a a' : Arena) (cap size : ℕ) (empty : opened a.blocks ≡ false) (small : cap ≤ 16777216) (l : LeastPower (cap + 16) size) where
-  pub opening-high : size ≤ 67108864
-  opening-high = least-small (cap + 16) size l (omega arith)
-
   pub opening-asks : opening a.blocks cap ≡ true
   opening-asks = rw empty (le-leb cap 16777216 small)
 

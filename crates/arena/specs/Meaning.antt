@@ -1,9 +1,10 @@
 -- What the blocks of an arena are as the memory of an allocator, and what ties them to the source.
-use Rattle.std.specs.Prelude.{◌≡◌, ℕ, ◌+◌, ◌-◌, List, [], ◌∷◌, length, drop, ◌≢◌}
+use Rattle.std.specs.Prelude.{◌≡◌, ℕ, ◌+◌, ◌-◌, true, List, [], ◌∷◌, length, drop, ◌≢◌}
 use mathlib.Core.HLevel.{Unit-prop, ¬_prop, ×_prop, ×₃_prop}
 use native.Mathlib.Nat.{ℕ_set}
 use Rattle.allocator.specs.Memory.{Block, Memory}
-use Rattle.source.specs.Blocks.{Outstanding, Place, contents}
+use Rattle.allocator.specs.Memory as memory
+use Rattle.source.specs.Blocks.{Outstanding, Place, within, byte_at, contents}
 
 -- the usable bytes of a block: those past the 16 that are reserved
 abbrev pub usable : List Outstanding → Place → ℕ → Block
@@ -18,6 +19,11 @@ olders bs (p ∷ ps) = usable bs p (p.size - 16) ∷ olders bs ps
 abbrev pub memory_of : List Outstanding → List Place → ℕ → Memory
 memory_of bs [] used = []
 memory_of bs (p ∷ ps) used = usable bs p used ∷ olders bs ps
+
+-- the byte at an address of the memory is the source's
+pub record Loaded (bs : List Outstanding) (m : Memory) (at : ℕ) : Type 0 where
+  pub within : within bs at ≡ true
+  pub byte : memory.byte_at m at ≡ byte_at bs at
 
 -- none of the places starts at the address
 abbrev pub Differs : ℕ → List Place → Type 0

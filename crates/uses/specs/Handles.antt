@@ -6,16 +6,15 @@ use Rattle.source.specs.declared.BlockSource as sources
 use Rattle.arena.specs.Rings.{newest_size}
 use Rattle.arena.specs.Arenas.{blocks_of, Consulted}
 use Rattle.arena.specs.Calls.{answered, Pushes, pushing, putting, Put}
-use Rattle.arena.specs.Keeps.{memory-lawful}
 use Rattle.arena.specs.Powers.{wanted}
-use Rattle.arena.specs.Views.{handle_of, memory_at}
+use Rattle.arena.specs.Views.{handle_of, memory_at, handle-lawful}
 use Rattle.arena.specs.declared.arena.ArenaHandle.{ArenaHandle}
 
 abbrev pub handle : {S : Type 0} → (source : sources.Ghosts S) → Ghosts (ArenaHandle S source)
 handle source =
     record {
       blocks = λ h. memory_at source.state h;
-      lawful = λ h. memory-lawful (source.state h.arena.source).blocks (source.lawful h.arena.source) (blocks_of h.arena.ring) h.used h.arena.kept h.arena.ring.rises h.marked;
+      lawful = λ h. handle-lawful source h;
       pushes = λ h size align r h'. Pushes (handle_of source.state h) (fits (memory_at source.state h) size align) size align r (handle_of source.state h')
           × Consulted source.chooses (pushing (blocks_of h.arena.ring) (fits (memory_at source.state h) size align) size align) h.arena.source (wanted (newest_size (blocks_of h.arena.ring)) size align) (answered r (blocks_of h'.arena.ring)) h'.arena.source;
       pops = λ h at size r h'. (handle_of source.state h' ≡ handle_of source.state h) × (h'.arena.source ≡ h.arena.source);

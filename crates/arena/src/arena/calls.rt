@@ -1,14 +1,14 @@
 // The calls of an arena and of its handle.
-ghost use Rattle.std.specs.Prelude.{◌≡◌, ℕ, ◌+◌, ◌*◌, ◌≤◌, true, nat_le};
+ghost use Rattle.std.specs.Prelude.{◌≡◌, ℕ, ◌+◌, ◌*◌, ◌≤◌, true, false, IfOk, IfErr, nat_le};
+ghost use Rattle.arena.specs.Meaning.{Loaded};
 ghost use Rattle.allocator.specs.Memory.{fits, taken};
 ghost use Rattle.arena.specs.Rings.{room, total, opened, newest_size, before, chain};
 ghost use Rattle.arena.specs.Arenas.{blocks_of, unopened, shrunk, given_back, Consulted, Gave, Takes};
-ghost use Rattle.allocator.specs.Answers.{asked};
+ghost use Rattle.allocator.specs.declared.fault.Fault.TheVariants.{Address};
 ghost use Rattle.source.specs.Answers.{Store};
 ghost use Rattle.arena.specs.Calls.{answered, Opens, opening, Extends, Pushes, pushing, putting, Put};
-ghost use Rattle.arena.specs.Keeps.{memory-lawful};
 ghost use Rattle.arena.specs.Powers.{least_power_of, wanted};
-ghost use Rattle.arena.specs.Views.{idle_of, handle_of, memory_at};
+ghost use Rattle.arena.specs.Views.{idle_of, handle_of, memory_at, handle-lawful};
 
 use super::{Arena, ArenaHandle};
 use crate::fault::ArenaFault;
@@ -171,9 +171,10 @@ impl<S: BlockSource> ArenaHandle<S> {
         self.arena.held()
     }
 
-    // Refuses an address whose byte is not taken.
+    // Refuses an address whose byte is not taken. A taken byte is one of the source's.
     fn taken(&self, at: usize) -> Result<(), Fault>
-        ensures { result ≡ asked (memory_at S.state self.now) at tt }
+        ensures yes { IfOk result (λ _. (taken (memory_at S.state self.now) at ≡ true) × Loaded (S.state self.now.arena.source).blocks (memory_at S.state self.now) at) }
+        ensures no { IfErr result (λ fault. (fault ≡ Address) × (taken (memory_at S.state self.now) at ≡ false)) }
     {
         if self.arena.ring.taken(self.used, at) {
             Ok(())
@@ -206,7 +207,7 @@ impl<S: BlockSource> ArenaHandle<S> {
 impl<S: BlockSource> Allocator for ArenaHandle<S> {
     ghost blocks = { λ h. memory_at S.state h };
 
-    ghost lawful = { λ h. memory-lawful (S.state h.arena.source).blocks (S.lawful h.arena.source) (blocks_of h.arena.ring) h.used h.arena.kept h.arena.ring.rises h.marked };
+    ghost lawful = { λ h. handle-lawful S.BlockSource h };
 
     ghost pushes = { λ h size align r h'. Pushes (handle_of S.state h) (fits (memory_at S.state h) size align) size align r (handle_of S.state h') × Consulted S.chooses (pushing (blocks_of h.arena.ring) (fits (memory_at S.state h) size align) size align) h.arena.source (wanted (newest_size (blocks_of h.arena.ring)) size align) (answered r (blocks_of h'.arena.ring)) h'.arena.source };
 
