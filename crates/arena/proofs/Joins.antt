@@ -1,23 +1,22 @@
 -- The blocks of a ring: with one more, and their limits.
-use Rattle.std.proofs.Common.{◌≡◌, ℕ, suc, ◌+◌, ◌-◌, ◌||◌, ◌*◌, ◌^◌, ◌<◌, ◌≤◌, true, List, [], ◌∷◌, ◌++◌, length, map, reverse, get_or, refl, sym, subst, append_assoc, ap, ◌∙◌, inl, inr, arith, pow_mono}
+use Rattle.std.proofs.Common.{◌≡◌, ℕ, suc, ◌+◌, ◌-◌, ◌||◌, ◌*◌, ◌^◌, ◌<◌, ◌≤◌, true, List, [], ◌∷◌, ◌++◌, length, map, reverse, get_or, refl, sym, append_assoc, ap, ◌∙◌, inl, inr, arith, pow_mono}
 use native.Mathlib.Nat.{two-pow-succ}
 use Rattle.std.proofs.lemmas.Bool.{cases_lt, cases_eq, lt-ltb, le-leb, and_from}
-use Rattle.std.proofs.lemmas.List.{reverse-append, reverse-reverse, length-map, length-reverse, places}
+use Rattle.std.proofs.lemmas.List.{reverse-append, length-map, length-reverse, places}
 use Rattle.std.proofs.lemmas.Grind.{common_steps}
-use Rattle.std.specs.List.{All, sum_by, list_any}
-use Rattle.std.proofs.lemmas.List.Elements.{All-nil, All-cons}
+use Rattle.std.specs.List.{sum_by, list_any}
 use Rattle.std.proofs.lemmas.List.Sums.{sum_by-cons, sum_by-le}
-use Rattle.std.proofs.lemmas.List.Sorted.{IsPermutation-reverse, All-permutation, sum_by-IsPermutation, list_any-IsPermutation}
+use Rattle.std.proofs.lemmas.List.Sorted.{IsPermutation-reverse, sum_by-IsPermutation, list_any-IsPermutation}
 use Rattle.allocator.specs.Memory.{spans, taken}
 use Rattle.source.specs.Blocks.{Outstanding, Place}
 use Rattle.arena.specs.declared.record.BlockRecord.{BlockRecord}
 use Rattle.arena.specs.Rings.{place, chain, after, Linked, newest_size, rising, total}
 use Rattle.arena.specs.Meaning.{olders}
-use Rattle.arena.specs.Keeps.{Rise, rise}
+use Rattle.arena.specs.Keeps.{rise}
 
-pub risen : (p : Place) (ps : List Place) → 16 ≤ p.size → p.size ≤ 67108864 → p.base < 2 ^ 48 → 2 * newest_size ps ≤ p.size → rising ps ≡ true → rising (p ∷ ps) ≡ true
-risen p ps some small low doubles older =
-    and_from _ _ (le-leb 16 p.size some) (and_from _ _ (le-leb p.size 67108864 small) (and_from _ _ (lt-ltb p.base (2 ^ 48) low) (and_from _ _ (le-leb (2 * newest_size ps) p.size doubles) older)))
+pub risen : (r : BlockRecord) (ps : List Place) → 2 * newest_size ps ≤ r.size → rising ps ≡ true → rising (place r ∷ ps) ≡ true
+risen r ps doubles older =
+    and_from _ _ (le-leb 16 r.size r.some) (and_from _ _ (le-leb r.size 67108864 r.small) (and_from _ _ (lt-ltb r.address (2 ^ 48) r.low) (and_from _ _ (le-leb (2 * newest_size ps) r.size doubles) older)))
 
 -- the last record's block is the newest
 pub chain-last : (rs : List BlockRecord) (r : BlockRecord) → chain (rs ++ r ∷ []) ≡ place r ∷ chain rs
@@ -25,9 +24,6 @@ chain-last rs r = simp reverse-append
 
 pub newest-first : (rs older : List BlockRecord) (r : BlockRecord) → rs ≡ older ++ r ∷ [] → chain rs ≡ place r ∷ chain older
 newest-first rs older r e = ap chain e ∙ chain-last older r
-
-pub last-rise : (rs older : List BlockRecord) (r : BlockRecord) → rs ≡ older ++ r ∷ [] → rising (chain rs) ≡ true → Rise (place r) (chain older)
-last-rise rs older r e rises = rise (place r) (chain older) (sym (ap rising (newest-first rs older r e)) ∙ rises)
 
 chain-length : (rs : List BlockRecord) → length (chain rs) ≡ length rs
 chain-length rs = simp (length-map, length-reverse)
@@ -56,7 +52,7 @@ roomy rs size r doubles small = let e = chain-length rs in let f = few (chain rs
 -- the last record is linked to the place n, and all else is as it was
 pub data Relinked (n : ℕ) (old new : List BlockRecord) : Type 0 where
   none : length old ≡ 0 → new ≡ old → Relinked n old new
-  some : (front : List BlockRecord) (last : BlockRecord) → old ≡ front ++ last ∷ [] → new ≡ front ++ record { address = last.address; size = last.size; next = n } ∷ [] → Relinked n old new
+  some : (front : List BlockRecord) (last : BlockRecord) → old ≡ front ++ last ∷ [] → new ≡ front ++ record last { next = n } ∷ [] → Relinked n old new
 
 pub relinked-chain : (n : ℕ) (old new : List BlockRecord) → Relinked n old new → chain new ≡ chain old
 relinked-chain n old new (none e f) = ap chain f
@@ -77,21 +73,8 @@ sizes (r ∷ rs) = ap (λ (n : ℕ). r.size + n) (sizes rs) ∙ sym (sum_by-cons
 pub total-sum : (rs : List BlockRecord) → total (chain rs) ≡ sum_by (λ (r : BlockRecord). r.size) rs
 total-sum rs = sizes (reverse rs) ∙ sum_by-IsPermutation _ rs (reverse rs) (IsPermutation-reverse rs)
 
--- the limits of a record
-pub record Within (r : BlockRecord) : Type 0 where
-  pub some : 16 ≤ r.size
-  pub small : r.size ≤ 67108864
-  pub low : r.address < 2 ^ 48
-
-within : (rs : List BlockRecord) → rising (map place rs) ≡ true → All Within rs
-within [] r = All-nil Within
-within (b ∷ bs) r = let d = rise (place b) (map place bs) r in All-cons Within b bs (record { some = d.some; small = d.small; low = d.low }) (within bs d.older)
-
-pub limits : (rs : List BlockRecord) → rising (chain rs) ≡ true → All Within rs
-limits rs r = subst (λ (xs : List BlockRecord). All Within xs) (reverse-reverse rs) (All-permutation Within (reverse rs) (reverse (reverse rs)) (IsPermutation-reverse (reverse rs)) (within (reverse rs) r))
-
-pub sum-small : (rs : List BlockRecord) → rising (chain rs) ≡ true → length rs ≤ 23 → sum_by (λ (r : BlockRecord). r.size) rs ≤ 23 * 67108864
-sum-small rs r many = let l = limits rs r in let s = sum_by-le (λ (r : BlockRecord). r.size) 67108864 rs (λ k d h. (l k d h).small) in omega arith
+pub sum-small : (rs : List BlockRecord) → length rs ≤ 23 → sum_by (λ (r : BlockRecord). r.size) rs ≤ 23 * 67108864
+sum-small rs many = let s = sum_by-le (λ (r : BlockRecord). r.size) 67108864 rs (λ k d h. (get_or rs k d).small) in omega arith
 
 -- is the address a usable byte of one of the blocks, in whatever order
 any-taken : (bs : List Outstanding) (at : ℕ) (rs : List BlockRecord) → taken (olders bs (map place rs)) at ≡ list_any (λ (r : BlockRecord). spans (r.address + 16) (r.size - 16) at) rs

@@ -14,7 +14,7 @@ use Rattle.source.specs.Answers.{Take, sized}
 use Rattle.source.specs.Blocks.{Outstanding, Place, Source, contents, granted}
 use Rattle.source.specs.declared.fault.SourceFault.{SourceFault}
 use Rattle.arena.specs.declared.record.BlockRecord.{BlockRecord}
-use Rattle.arena.specs.Rings.{chain, Newest, rising, opened, room, counted, newest, newest_size}
+use Rattle.arena.specs.Rings.{chain, place, before, rising, opened, room, counted, newest, newest_size}
 use Rattle.arena.specs.Meaning.{usable, olders, memory_of, Kept}
 use Rattle.arena.specs.Powers.{LeastPower, least_power_of, wanted}
 use Rattle.arena.specs.Arenas.{Arena, Consulted, Taken, Takes, dry}
@@ -149,23 +149,10 @@ popped-newest bs ps p qs used at first on inside =
 pub wanted-is : (n last least size align s a : ℕ) → n ≡ max (2 * last) least → LeastPower (16 + s + a) least → s ≡ size → a ≡ align → n ≡ wanted last size align
 wanted-is n last least size align s a m l e f = rw (sym e, sym f) (m ∙ ap (λ (x : ℕ). max (2 * last) x) (least-is (16 + s + a) least l))
 
--- what `ok_or` passed on, and what it refused
-ok-some : {X E : Type 0} (N : Type 0) (P : X → Type 0) (o : Option X) (x : X) (e : E) → Ok x ≡ ok_or o e → MatchOption o N P → P x
-ok-some N P None x e is m = let z : ◌≡◌ {A = ℕ} 0 1 = cc in absurd (omega arith)
-ok-some N P (Some y) x e is m = let same : y ≡ x = cc in subst P same m
-
-err-none : {X E : Type 0} (N : Type 0) (P : X → Type 0) (o : Option X) (f e : E) → Err f ≡ ok_or o e → MatchOption o N P → N × (f ≡ e)
-err-none N P None f e is m = (m, cc)
-err-none N P (Some y) f e is m = let z : ◌≡◌ {A = ℕ} 0 1 = cc in absurd (omega arith)
-
-pub tail-some : {E : Type 0} (rs : List BlockRecord) (o : Option BlockRecord) (b : BlockRecord) (e : E) → Ok b ≡ ok_or o e → MatchOption o (chain rs ≡ []) (λ x. Newest rs x) → Newest rs b
-tail-some rs o b e is m = ok-some (chain rs ≡ []) (λ (x : BlockRecord). Newest rs x) o b e is m
-
-pub tail-none : {E : Type 0} (rs : List BlockRecord) (o : Option BlockRecord) (f e : E) → Err f ≡ ok_or o e → MatchOption o (chain rs ≡ []) (λ x. Newest rs x) → (chain rs ≡ []) × (f ≡ e)
-tail-none rs o f e is m = err-none (chain rs ≡ []) (λ (x : BlockRecord). Newest rs x) o f e is m
-
-pub least-some : {E : Type 0} (n : ℕ) (o : Option ℕ) (x : ℕ) (e : E) → Ok x ≡ ok_or o e → MatchOption o (67108864 < n) (LeastPower n) → LeastPower n x
-least-some n o x e is m = ok-some (67108864 < n) (LeastPower n) o x e is m
+-- what `ok_or` refused of the newest block
+pub tail-none : {E : Type 0} (rs : List BlockRecord) (o : Option BlockRecord) (f e : E) → Err f ≡ ok_or o e → MatchOption o (chain rs ≡ []) (λ x. chain rs ≡ place x ∷ before (chain rs)) → (chain rs ≡ []) × (f ≡ e)
+tail-none rs None f e is m = (m, cc)
+tail-none rs (Some y) f e is m = absurd (cc)
 
 -- what a source was asked, and what it answered
 pub asked-so : {S : Type 0} {chooses : S → ℕ → Result ℕ SourceFault → S → Type 0} {asked : Bool} {s s' : S} {want want' : ℕ} {answer answer' : Result ℕ SourceFault} →

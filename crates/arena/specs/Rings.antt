@@ -1,5 +1,5 @@
 -- The blocks of an arena: their records, the oldest first, and the places that they stand for, the newest first.
-use Rattle.std.specs.Prelude.{◌≡◌, ℕ, ◌+◌, ◌-◌, ◌*◌, ◌^◌, ◌<◌, ◌≤◌, Bool, true, false, cond, ◌&&◌, List, [], ◌∷◌, length, map, reverse, ◌==◌, nat_le, nat_lt, slice_index_or}
+use Rattle.std.specs.Prelude.{◌≡◌, ℕ, ◌+◌, ◌-◌, ◌*◌, ◌^◌, ◌<◌, Bool, true, false, cond, ◌&&◌, List, [], ◌∷◌, length, map, reverse, ◌==◌, nat_le, nat_lt, slice_index_or}
 use Rattle.source.specs.Blocks.{Place}
 use Rattle.arena.specs.declared.record.BlockRecord.{BlockRecord}
 
@@ -54,10 +54,3 @@ rising (p ∷ ps) = nat_le 16 p.size && (nat_le p.size 67108864 && (nat_lt p.bas
 abbrev pub counted : ℕ → List Place → Bool
 counted growths [] = growths == 0
 counted growths (p ∷ ps) = nat_le (2 ^ (growths + 4)) p.size
-
--- the record is the newest block's, within the limits of each
-pub record Newest (rs : List BlockRecord) (b : BlockRecord) : Type 0 where
-  pub first : chain rs ≡ place b ∷ before (chain rs)
-  pub some : 16 ≤ b.size
-  pub small : b.size ≤ 67108864
-  pub low : b.address < 2 ^ 48

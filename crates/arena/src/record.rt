@@ -3,30 +3,52 @@ ghost use Rattle.std.specs.Prelude.{◌≡◌, ◌+◌, ◌-◌, ◌^◌, ◌<�
 ghost use Rattle.allocator.specs.Memory.{spans};
 
 // Where the block lies, how many bytes it has, and which record is the next one's.
-#[derive(Clone, Copy, Debug, Default, PartialEq, Eq)]
+#[derive(Clone, Copy, Debug, PartialEq, Eq)]
 pub struct BlockRecord {
     pub address: usize,
     pub size: usize,
     // By index, since the memory is fixed; that each block is linked to the next is a rule of the product.
     pub next: usize,
+    ghost some: { 16 ≤ size },
+    ghost small: { size ≤ 67108864 },
+    ghost low: { address < 2 ^ 48 },
+}
+
+// A blank. By hand, since a derived one would have the size 0.
+impl Default for BlockRecord {
+    fn default() -> BlockRecord {
+        BlockRecord {
+            address: 0,
+            size: 16,
+            next: 0,
+        }
+    }
 }
 
 impl BlockRecord {
     // The usable length: the first 16 bytes are reserved.
     pub(crate) fn room(self) -> usize
-        requires { 16 ≤ self.size }
         ensures { result ≡ self.size - 16 }
     {
         self.size - 16
     }
 
+    // The same block, linked to that place.
+    pub(crate) fn linked_to(self, next: usize) -> BlockRecord
+        ensures { result ≡ record self { next = next } }
+    {
+        BlockRecord {
+            address: self.address,
+            size: self.size,
+            next,
+        }
+    }
+
     // Is the address one of the first so many usable bytes?
     pub(crate) fn covers(self, many: usize, at: usize) -> bool
-        requires low { self.address < 2 ^ 48 }
-        requires few { many ≤ 67108864 }
         ensures { result ≡ spans (self.address + 16) many at }
     {
         let first = self.address + 16;
-        (first..first + many).contains(&at)
+        first <= at && at - first < many
     }
 }

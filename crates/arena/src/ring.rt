@@ -2,7 +2,7 @@
 ghost use Rattle.std.specs.Prelude.{◌≡◌, ℕ, ◌*◌, ◌^◌, ◌<◌, ◌≤◌, true, List, [], ◌∷◌, MatchOption};
 ghost use Rattle.allocator.specs.Memory.{taken};
 ghost use Rattle.source.specs.Blocks.{Outstanding};
-ghost use Rattle.arena.specs.Rings.{chain, Linked, rising, Newest, opened, newest_size, newest, total};
+ghost use Rattle.arena.specs.Rings.{chain, Linked, place, rising, opened, before, newest_size, newest, total};
 ghost use Rattle.arena.specs.Meaning.{memory_of};
 
 use crate::record::BlockRecord;
@@ -41,7 +41,7 @@ impl Ring {
 
     // The newest block.
     pub(crate) fn tail(&self) -> Option<BlockRecord>
-        ensures { MatchOption result (chain self.now.records.items ≡ []) (λ b. Newest self.now.records.items b) }
+        ensures { MatchOption result (chain self.now.records.items ≡ []) (λ b. chain self.now.records.items ≡ place b ∷ before (chain self.now.records.items)) }
     {
         self.records.last().copied()
     }
@@ -55,7 +55,6 @@ impl Ring {
 
     // Is the address one of a taken byte, where so many of the newest block's are taken, and all of the others'?
     pub(crate) fn taken(&self, used: usize, at: usize) -> bool
-        requires { used ≤ 67108864 }
         ensures { (bs : List Outstanding) → result ≡ taken (memory_of bs (chain self.now.records.items) used) at }
     {
         let Some((newest, older)) = self.records.split_last() else {
@@ -66,23 +65,16 @@ impl Ring {
 
     // Puts a further block between the newest and the first.
     #[tactic(auto, using(crate::proofs::Joins::roomy))]
-    pub(crate) fn push_next(&mut self, address: usize, size: usize)
-        requires some { 16 ≤ size }
-        requires small { size ≤ 67108864 }
-        requires low { address < 2 ^ 48 }
-        requires doubles { 2 * newest_size (chain self.old.records.items) ≤ size }
-        ensures { chain self.new.records.items ≡ record { base = address; size = size } ∷ chain self.old.records.items }
+    pub(crate) fn push_next(&mut self, block: BlockRecord)
+        requires { 2 * newest_size (chain self.old.records.items) ≤ block.size }
+        ensures { chain self.new.records.items ≡ place block ∷ chain self.old.records.items }
     {
         let n = self.records.len();
         // taken out and put back: after a write through last_mut in a branch, no fact names the records
         if let Some(last) = self.records.pop() {
-            self.records.push(BlockRecord { next: n, ..last });
+            self.records.push(last.linked_to(n));
         }
-        self.records.push(BlockRecord {
-            address,
-            size,
-            next: 0,
-        });
+        self.records.push(block.linked_to(0));
     }
 
     // Leaves the newest block alone in the ring.
@@ -91,7 +83,7 @@ impl Ring {
     {
         if let Some(tail) = self.tail() {
             self.records.clear();
-            self.records.push(BlockRecord { next: 0, ..tail });
+            self.records.push(tail.linked_to(0));
         }
     }
 }

@@ -22,17 +22,18 @@ pub const MOST_BYTES: usize = 32_768;
 
 const MOST_ENTRIES: usize = 4096;
 
-/// What an entry does: a push with an alignment of 1, 2, 4, 8 or 16, a vector of positions or of cues, or the plain pop.
+/// What an entry does: a push with an alignment of 1, 2, 4, 8 or 16, a vector of positions or of cues, or the plain pop. Its number is that of the
+/// character that writes it.
 #[derive(Clone, Copy, PartialEq, Eq, Debug)]
 pub enum Letter {
-    Byte,
-    Half,
-    Word,
-    Double,
-    Quad,
-    Positions,
-    Cues,
-    Pop,
+    Byte = 98,
+    Half = 104,
+    Word = 119,
+    Double = 100,
+    Quad = 113,
+    Positions = 118,
+    Cues = 99,
+    Pop = 112,
 }
 
 impl Letter {
@@ -51,7 +52,7 @@ impl Letter {
     }
 }
 
-/// The letter that the character writes; a character that writes none is refused. By a table, as a variant has no character for its number.
+/// The letter that the character writes; a character that writes none is refused. By a table, since no conversion leads from a number to a variant.
 impl TryFrom<char> for Letter {
     type Error = Fault;
 
@@ -77,16 +78,7 @@ impl From<Letter> for char {
     ghost from_gives = { λ l c. c ≡ letter_of l };
 
     fn from(letter: Letter) -> char {
-        match letter {
-            Letter::Byte => 'b',
-            Letter::Half => 'h',
-            Letter::Word => 'w',
-            Letter::Double => 'd',
-            Letter::Quad => 'q',
-            Letter::Positions => 'v',
-            Letter::Cues => 'c',
-            Letter::Pop => 'p',
-        }
+        char::from(letter as u8)
     }
 }
 

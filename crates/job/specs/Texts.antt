@@ -2,7 +2,7 @@
 use Rattle.std.specs.Prelude.{ℕ, List, ◌∷◌, ◌++◌, codes, decimal, Result, Ok, Err}
 use Rattle.allocator.specs.Stats.{min_capacity}
 use Rattle.cards.specs.Letters.{letter_of}
-use Rattle.session.specs.Faults.{refusal}
+use Rattle.session.specs.Faults.{refusal_text}
 use Rattle.session.specs.declared.fault.Fault.{Fault}
 use Rattle.job.specs.declared.listing.Answer.{Answer}
 use Rattle.job.specs.declared.listing.Answer.TheVariants.{At, Done}
@@ -17,7 +17,7 @@ answer_text Done = codes "ok"
 -- the answer, or `refused` and the number
 abbrev pub shown_text : Result Answer Fault → List ℕ
 shown_text (Ok answer) = answer_text answer
-shown_text (Err fault) = codes "refused " ++ decimal (refusal fault)
+shown_text (Err fault) = refusal_text fault
 
 -- the number of the entry, its letter, and the answer
 abbrev pub line_text : Line → List ℕ

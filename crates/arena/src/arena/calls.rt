@@ -71,11 +71,15 @@ impl<S: BlockSource> Arena<S> {
         let at = self.source.take(size)?;
         // every block but the first is a growth
         self.growths += usize::from(self.ring.opened());
-        self.ring.push_next(at, size);
+        self.ring.push_next(BlockRecord {
+            address: at,
+            size,
+            next: 0,
+        });
         Ok(at)
     }
 
-    // Stores a byte of one of the source's blocks.
+    // Stores a byte of one of the source's blocks. A call of the arena's own, since its type speaks of the source.
     fn store(&mut self, at: usize, byte: u8) -> Result<(), SourceFault>
         ensures rule { Store (S.state self.old.source) at byte result (S.state self.new.source) }
         ensures own { S.stores self.old.source at byte result self.new.source }
@@ -103,10 +107,7 @@ impl<S: BlockSource> Arena<S> {
     pub fn capacity(&self) -> usize
         ensures { result ≡ room (blocks_of self.now.ring) }
     {
-        match self.ring.tail() {
-            Some(tail) => tail.room(),
-            None => 0,
-        }
+        self.ring.tail().map_or(0, |tail| tail.room())
     }
 
     // How many blocks were granted after the first one, over the arena's life.
@@ -172,7 +173,7 @@ impl<S: BlockSource> ArenaHandle<S> {
     }
 
     // Refuses an address whose byte is not taken. A taken byte is one of the source's.
-    fn taken(&self, at: usize) -> Result<(), Fault>
+    fn require_taken(&self, at: usize) -> Result<(), Fault>
         ensures yes { IfOk result (λ _. (taken (memory_at S.state self.now) at ≡ true) × Loaded (S.state self.now.arena.source).blocks (memory_at S.state self.now) at) }
         ensures no { IfErr result (λ fault. (fault ≡ Address) × (taken (memory_at S.state self.now) at ≡ false)) }
     {
@@ -233,7 +234,7 @@ impl<S: BlockSource> Allocator for ArenaHandle<S> {
 
     // Reduces the used space if the span is in the newest block.
     fn pop_alloc(&mut self, at: usize, _layout: Layout) -> Result<(), Fault> {
-        self.taken(at)?;
+        self.require_taken(at)?;
         if let Some(tail) = self.arena.ring.tail() {
             if tail.covers(self.used, at) {
                 self.used = at - (tail.address + 16);
@@ -243,12 +244,12 @@ impl<S: BlockSource> Allocator for ArenaHandle<S> {
     }
 
     fn load(&self, at: usize) -> Result<u8, Fault> {
-        self.taken(at)?;
+        self.require_taken(at)?;
         Ok(self.arena.source.load(at)?)
     }
 
     fn store(&mut self, at: usize, byte: u8) -> Result<(), Fault> {
-        self.taken(at)?;
+        self.require_taken(at)?;
         self.arena.store(at, byte)?;
         Ok(())
     }

@@ -4,14 +4,14 @@ use Rattle.std.proofs.lemmas.Result.{err_from_is_err_and}
 use Rattle.arena.specs.Powers.{LeastPower}
 use Rattle.arena.specs.Views.{idle_of}
 use Rattle.allocator.specs.declared.fault.Fault.{Fault}
-use Rattle.arena.proofs.Steps.{least-some, want, over-extends, over-asked, under-asked, refused-extends, granted-extends, asked-so, not-asked, answered-ok}
+use Rattle.arena.proofs.Steps.{want, over-extends, over-asked, under-asked, refused-extends, granted-extends, asked-so, not-asked, answered-ok}
 use Rattle.arena.proofs.arena.ArenaHandle.grow.Goals as goal
 
 pub returns-then-size-gt67108864 : goal.returns-then-size-gt67108864
 returns-then-size-gt67108864 g c =
     let h = c.args.self.now in
     let a = idle_of g.S.BlockSource.state h.arena in
-    let least : LeastPower (16 + c.size.result + c.align.result) c.in_ok-least.least = least-some _ c.least_power.result _ _ c.in_ok-least.ensures.value c.least_power.ensures in
+    let least : LeastPower (16 + c.size.result + c.align.result) c.in_ok-least.least = rw c.in_ok-least.ensures.ok_part at c.least_power.ensures in
     let over = c.if-size-gt67108864.true in
     record {
       extends = over-extends a a _ _ _ _ _ _ _ h.used c.requires.opened c.requires.last c.max-size.ensures least c.size.ensures.value c.align.ensures.value over;
@@ -22,7 +22,7 @@ pub returns-in_err-base : goal.returns-in_err-base
 returns-in_err-base g c =
     let h = c.args.self.now in
     let a = idle_of g.S.BlockSource.state h.arena in
-    let least : LeastPower (16 + c.size.result + c.align.result) c.in_ok-least.least = least-some _ c.least_power.result _ _ c.in_ok-least.ensures.value c.least_power.ensures in
+    let least : LeastPower (16 + c.size.result + c.align.result) c.in_ok-least.least = rw c.in_ok-least.ensures.ok_part at c.least_power.ensures in
     let p = err_from_is_err_and c.from_residual-in_err-base.result c.from_residual-in_err-base.ensures.1 in
     let under = c.if-size-gt67108864.false in
     let takes = c.in_err-base.ensures.takes in
@@ -35,7 +35,7 @@ pub returns : goal.returns
 returns g c =
     let h = c.args.self.now in
     let a = idle_of g.S.BlockSource.state h.arena in
-    let least : LeastPower (16 + c.size.result + c.align.result) c.in_ok-least.least = least-some _ c.least_power.result _ _ c.in_ok-least.ensures.value c.least_power.ensures in
+    let least : LeastPower (16 + c.size.result + c.align.result) c.in_ok-least.least = rw c.in_ok-least.ensures.ok_part at c.least_power.ensures in
     let under = c.if-size-gt67108864.false in
     let takes = c.in_ok-base.ensures.takes in
     record {

@@ -7,7 +7,7 @@ use Rattle.arena.proofs.ring.Ring.total.Goals as goal
 pub sum-requires-clause-fits : goal.sum-requires-clause-fits
 sum-requires-clause-fits c =
     let r = c.args.self.now in
-    let small = sum-small r.records.items r.rises (search rules) in
+    let small = sum-small r.records.items (search rules) in
     search rules
 
 pub returns : goal.returns

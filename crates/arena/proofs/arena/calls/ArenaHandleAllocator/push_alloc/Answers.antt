@@ -5,7 +5,7 @@ use Rattle.arena.specs.Arenas.{blocks_of}
 use Rattle.arena.specs.Keeps.{memory-lawful}
 use Rattle.arena.specs.Rings.{place}
 use Rattle.arena.specs.Views.{handle-lawful}
-use Rattle.arena.proofs.Steps.{tail-some, tail-none, unserved, unfit, served, marked, beyond}
+use Rattle.arena.proofs.Steps.{tail-none, unserved, unfit, served, marked, beyond}
 use Rattle.arena.proofs.arena.calls.ArenaHandleAllocator.push_alloc.Goals as goal
 
 pub returns-in_err-tail-clause-rule : goal.returns-in_err-tail-clause-rule
@@ -21,7 +21,7 @@ returns-then-wanted-room-clause-serves g c =
     let s = g.S.BlockSource.state h.arena.source in
     let ps = blocks_of h.arena.ring in
     let l = c.args.layout in
-    let first = (tail-some h.arena.ring.records.items c.tail.result _ _ c.in_ok-tail.ensures.value c.tail.ensures).first in
+    let first = rw c.in_ok-tail.ensures.ok_part at c.tail.ensures in
     let under : c.align_offset-pad.result + c.size.result ≤ c.in_ok-tail.tail.size - 16 - c.args.self.now.used = omega arith in
     push-served (handle-lawful g.S.BlockSource h)
     (memory-lawful s.blocks (g.S.BlockSource.lawful h.arena.source) ps _ h.arena.kept h.arena.ring.rises (marked s.blocks ps (place c.in_ok-tail.tail) _ h.used l.size l.align _ _ first h.arena.kept c.align_offset-pad.ensures.value c.size.ensures.value under h.marked))
@@ -34,7 +34,7 @@ returns-clause-rule g c =
     let s = g.S.BlockSource.state h.arena.source in
     let ps = blocks_of h.arena.ring in
     let l = c.args.layout in
-    let first = (tail-some h.arena.ring.records.items c.tail.result _ _ c.in_ok-tail.ensures.value c.tail.ensures).first in
+    let first = rw c.in_ok-tail.ensures.ok_part at c.tail.ensures in
     let over : c.in_ok-tail.tail.size - 16 - c.args.self.now.used < c.align_offset-pad.result + c.size.result = omega arith in
     let off = unfit s.blocks ps (place c.in_ok-tail.tail) _ h.used l.size l.align _ _ first h.arena.kept c.align_offset-pad.ensures.value c.size.ensures.value over in
     beyond _ _ _ _ _ _ _ h.arena.kept c.grow.new.self.arena.kept off c.grow.ensures.extends

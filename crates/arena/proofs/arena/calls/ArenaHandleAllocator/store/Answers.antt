@@ -10,7 +10,7 @@ pub returns-clause-rule : goal.returns-clause-rule
 returns-clause-rule g c =
     let h = c.args.self.now in
     let s = g.S.BlockSource.state h.arena.source in
-    let (on, w) = c.in_ok-taken.ensures.yes in
+    let (on, w) = c.in_ok-require_taken.ensures.yes in
     let after = c.in_ok-store.ensures.rule.after ∙ cond-true _ _ _ w.within in
     record {
       answer = sym (cond-true _ _ _ on);

@@ -1,7 +1,7 @@
 use Rattle.std.proofs.Common.{sym, ◌∙◌}
 use Rattle.arena.specs.Arenas.{blocks_of}
 use Rattle.arena.proofs.Sources.{loaded}
-use Rattle.arena.proofs.arena.ArenaHandle.taken.Goals as goal
+use Rattle.arena.proofs.arena.ArenaHandle.require_taken.Goals as goal
 
 pub returns-then-taken-clause-yes : goal.returns-then-taken-clause-yes
 returns-then-taken-clause-yes g c =
