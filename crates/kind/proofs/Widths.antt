@@ -28,13 +28,14 @@ byte_of_tag x i from =
     ap (λ bs. slice_index bs (i - 12)) (written_4 x.tag) ∙ sym past
 
 -- a part of a cue's bytes is that part of the buffer
-number_read : (bs : List ℕ) (k at n v : ℕ) → at + n ≤ 16 → v ≡ number (take n (drop at bs)) → v < 2 ^ k → number (take n (drop at (take 16 bs))) % 2 ^ k ≡ v
-number_read bs k at n v inside e less =
+part_front : (bs : List ℕ) (at n : ℕ) → at + n ≤ 16 → take n (drop at (take 16 bs)) ≡ take n (drop at bs)
+part_front bs at n inside =
     let is : 16 ≡ at + (16 - at) = omega arith in
     let short : n ≤ 16 - at = omega arith in
-    let front : take n (drop at (take 16 bs)) ≡ take n (drop at bs) =
-    ap (λ j. take n (drop at (take j bs))) is ∙ ap (λ xs. take n xs) (drop-take at (16 - at) bs) ∙ take-take n (16 - at) (drop at bs) short in
-    ap (λ xs. number xs % 2 ^ k) front ∙ ap (λ m. m % 2 ^ k) (sym e) ∙ mod-eq_of_lt less
+    ap (λ j. take n (drop at (take j bs))) is ∙ ap (λ xs. take n xs) (drop-take at (16 - at) bs) ∙ take-take n (16 - at) (drop at bs) short
+
+number_read : (bs : List ℕ) (k at n v : ℕ) → at + n ≤ 16 → v ≡ number (take n (drop at bs)) → v < 2 ^ k → number (take n (drop at (take 16 bs))) % 2 ^ k ≡ v
+number_read bs k at n v inside e less = ap (λ xs. number xs % 2 ^ k) (part_front bs at n inside) ∙ ap (λ m. m % 2 ^ k) (sym e) ∙ mod-eq_of_lt less
 
 -- a cue of the numbers in the front of a buffer
 pub cue_read : (bs : List ℕ) (s l t : ℕ) (p : s < 2 ^ 64) (q : l < 2 ^ 32) (r : t < 2 ^ 32)
