@@ -1,8 +1,8 @@
 -- Each element as its bytes, and as it is read from bytes: the same element again.
-use Rattle.std.proofs.Common.{◌≡◌, ℕ, ◌%◌, ◌^◌, ◌<◌, List, ◌++◌, take, drop, refl, sym, ap, ◌∙◌, subst, mod-eq_of_lt}
+use Rattle.std.proofs.Common.{◌≡◌, ℕ, ◌%◌, ◌^◌, ◌<◌, List, ◌++◌, length, take, drop, refl, ap, ◌∙◌, subst}
 use native.Mathlib.Bridge.{le_prop}
 use Rattle.kind.specs.Bytes.{little_endian, number, below_power, AllBytes}
-use Rattle.kind.specs.Endian.{number-little_endian, bytes-little_endian, bytes-append}
+use Rattle.kind.specs.Endian.{number-packed, bytes-little_endian, bytes-append}
 use Rattle.kind.specs.declared.element.Byte.{Byte}
 use Rattle.kind.specs.declared.element.Position.{Position}
 use Rattle.kind.specs.declared.element.Cue.{Cue}
@@ -22,7 +22,7 @@ byte n p = record { value = n; fits = p }
 abbrev position : (n : ℕ) → n < 2 ^ 32 → Position
 position n p = record { at = n; fits = p }
 
-abbrev cue : (sample : ℕ) → sample < 2 ^ 64 → (length : ℕ) → length < 2 ^ 32 → (tag : ℕ) → tag < 2 ^ 32 → Cue
+abbrev pub cue : (sample : ℕ) → sample < 2 ^ 64 → (length : ℕ) → length < 2 ^ 32 → (tag : ℕ) → tag < 2 ^ 32 → Cue
 cue sample p length q tag r = record { sample = sample; length = length; tag = tag; fits = p; short = q; small = r }
 
 -- what is made of the number that some bytes write, within k bits
@@ -45,10 +45,7 @@ module _ {T : Type 0} (k : ℕ) (make : (n : ℕ) → n < 2 ^ k → T) where
 
   -- the same of a number that was packed
   made-again : (width n : ℕ) → 2 ^ k ≡ 256 ^ width → (p : n < 2 ^ k) → made_from k make (little_endian width n) ≡ make n p
-  made-again width n same p =
-      let whole = number-little_endian width n (subst (λ m. n < m) same p) in
-      let small : number (little_endian width n) < 2 ^ k = subst (λ m. m < 2 ^ k) (sym whole) p in
-      made-same (mod-eq_of_lt small ∙ whole) (below_power k (number (little_endian width n))) p
+  made-again width n same p = made-same (number-packed width k n same p) (below_power k (number (little_endian width n))) p
 
 pub byte-again : (x : Byte) → byte_from (byte_packed x) ≡ x
 byte-again x = made-again 8 byte 1 x.value refl x.fits
@@ -56,11 +53,21 @@ byte-again x = made-again 8 byte 1 x.value refl x.fits
 pub position-again : (x : Position) → position_from (position_packed x) ≡ x
 position-again x = made-again 32 position 4 x.at refl x.fits
 
+-- a cue of the numbers that three parts write
+pub cue-made : (xs ys zs : List ℕ) (s l t : ℕ) (p : s < 2 ^ 64) (q : l < 2 ^ 32) (r : t < 2 ^ 32)
+    → number xs % 2 ^ 64 ≡ s → number ys % 2 ^ 32 ≡ l → number zs % 2 ^ 32 ≡ t → made_from 32 (made_from 32 (made_from 64 cue xs) ys) zs ≡ cue s p l q t r
+cue-made xs ys zs s l t p q r sample length tag =
+    ap (λ (f : (n : ℕ) → n < 2 ^ 32 → (m : ℕ) → m < 2 ^ 32 → Cue). made_from 32 (made_from 32 f ys) zs) (made-same 64 cue sample (below_power 64 (number xs)) p)
+    ∙ ap (λ (f : (n : ℕ) → n < 2 ^ 32 → Cue). made_from 32 f zs) (made-same 32 (cue s p) length (below_power 32 (number ys)) q)
+    ∙ made-same 32 (cue s p l q) tag (below_power 32 (number zs)) r
+
 pub cue-again : (x : Cue) → cue_from (cue_packed x) ≡ x
 cue-again x =
-    ap (λ (f : (n : ℕ) → n < 2 ^ 32 → (m : ℕ) → m < 2 ^ 32 → Cue). made_from 32 (made_from 32 f (little_endian 4 x.length)) (little_endian 4 x.tag)) (made-again 64 cue 8 x.sample refl x.fits)
-    ∙ ap (λ (f : (n : ℕ) → n < 2 ^ 32 → Cue). made_from 32 f (little_endian 4 x.tag)) (made-again 32 (cue x.sample x.fits) 4 x.length refl x.short)
-    ∙ made-again 32 (cue x.sample x.fits x.length x.short) 4 x.tag refl x.small
+    cue-made (little_endian 8 x.sample) (little_endian 4 x.length) (little_endian 4 x.tag) x.sample x.length x.tag x.fits x.short x.small
+    (number-packed 8 64 x.sample refl x.fits) (number-packed 4 32 x.length refl x.short) (number-packed 4 32 x.tag refl x.small)
+
+pub cue-exact : (x : Cue) → length (cue_packed x) ≡ 16
+cue-exact x = refl
 
 pub cue-bytes : (x : Cue) → AllBytes (cue_packed x)
 cue-bytes x =

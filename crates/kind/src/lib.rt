@@ -30,7 +30,8 @@ pub trait Kind: Copy {
     fn byte(&self, i: usize) -> u8
         ensures { result ≡ slice_index (packed self.now) i };
 
-    // The element whose packing the buffer begins with.
+    // The element whose packing the buffer begins with. 64 is the widest a kind may be: an array of the kind's own width would want a
+    // computed const argument, which Rattle does not have.
     fn unpack(bytes: &[u8; 64]) -> Self
         ensures { result ≡ unpacked (take wide bytes.now) };
 
