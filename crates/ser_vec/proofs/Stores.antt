@@ -3,11 +3,11 @@ use Rattle.std.proofs.Common.{◌≡◌, ℕ, suc, zero, ◌+◌, ◌-◌, ◌*�
 use Rattle.std.specs.Result.{IsErrAnd}
 use Rattle.std.proofs.lemmas.List.{append-nil}
 use Rattle.std.proofs.lemmas.Result.{err_from_is_err_and}
-use Rattle.std.proofs.lemmas.Bool.{cases_lt, cases_Bool, both_ways}
-use Rattle.allocator.specs.Memory.{Memory, Lawful, within, taken, byte_at, stored}
+use Rattle.std.proofs.lemmas.Bool.{cases_lt}
+use Rattle.allocator.specs.Memory.{within, taken, byte_at, stored}
 use Rattle.allocator.specs.declared.Allocator.{Ghosts}
 use Rattle.allocator.specs.declared.fault.Fault.TheVariants.{Address}
-use Rattle.allocator.proofs.Spans.{untaken-outside}
+use Rattle.allocator.proofs.Spans.{taken-within}
 use Rattle.kind.specs.declared.Kind as kinds
 use Rattle.session.specs.Ledger.{Span}
 use Rattle.session.specs.Records.{Held}
@@ -21,6 +21,7 @@ use Rattle.session.specs.declared.session.Session.{Session}
 use Rattle.session.proofs.Blocks.{byte_at-stored, byte_at-other}
 use Rattle.session.specs.Records.{Unique}
 use Rattle.session.proofs.Records.{grants-unique}
+use Rattle.session.proofs.Laws.{run-after}
 use Rattle.ser_vec.specs.Elements.{stores_of, packings, Laid, Room, Stored, StoredCut, Writes}
 use Rattle.ser_vec.specs.declared.fault.Fault as ours
 use Rattle.ser_vec.specs.declared.fault.Fault.TheVariants.{Session as Nested}
@@ -29,12 +30,6 @@ use Rattle.ser_vec.proofs.Packings.{joined-at}
 -- what the exit of a `?` returns
 pub failed : {T E : Type 0} {b : E} (r : Result T E) → IsErrAnd r (λ y. y ≡ b) → r ≡ Err b
 failed r told = let (y, is, same) = err_from_is_err_and r told in is ∙ ap Err same
-
-pub taken-within : (m : Memory) (at : ℕ) → Lawful m → taken m at ≡ true → within m at ≡ true
-taken-within m at lawful on = elim (cases_Bool (within m at)) [
-  | inl e ↦ e
-  | inr e ↦ absurd (both_ways (taken m at) (untaken-outside m at lawful e) on)
-]
 
 -- what a store that is done says of the grant's one span
 store-done : {s : State} {grant offset v : ℕ} {s' : State} (at size : ℕ) → Unique s.live → Held s.live grant at size → Step s (store grant offset v) done s' →
@@ -119,11 +114,6 @@ module _ {A : Type 0} (al : Ghosts A) (s : Session A) (grant at offset : ℕ) (b
 pub packing-of-one : {K : Type 0} (kind : kinds.Ghosts K) (x : K) (j : ℕ) {v : ℕ} → v ≡ get_or (kind.packed x) j 0 → v ≡ get_or (packings kind (x ∷ [])) j 0
 packing-of-one kind x j read = read ∙ ap (λ (z : List ℕ). get_or z j 0) (sym (append-nil (kind.packed x)))
 
--- a run after a run
-run-after : {A : Type 0} {al : Ghosts A} {s s₁ s₂ : Session A} {first second : List Event} → Run al s first s₁ → Run al s₁ second s₂ → Run al s (second ++ first) s₂
-run-after one opened = one
-run-after one (visited earlier performs) = visited (run-after one earlier) performs
-
 -- bytes that were stored, and then more of the same bytes
 module _ (bs cs : List ℕ) (n most : ℕ) (same : (j : ℕ) → j < most → get_or cs j 0 ≡ get_or bs (n + j) 0) where
   event-after : (grant o k : ℕ) → k < most → (answer : Answer) → event (store grant (o + n + k) (get_or cs k 0)) answer ≡ event (store grant (o + (n + k)) (get_or bs (n + k) 0)) answer
@@ -162,7 +152,7 @@ module _ (bs cs : List ℕ) (n most : ℕ) (same : (j : ℕ) → j < most → ge
     pub stored-after : Stored al s₁ grant at (o + n) cs most s₂ → Stored al s grant at o bs (n + most) s₂
     stored-after more =
         record {
-          run = subst (λ (es : List Event). Run al s es s₂) (stores-after grant o most (omega arith)) (run-after sofar.run more.run);
+          run = subst (λ (es : List Event). Run al s es s₂) (stores-after grant o most (omega arith)) (run-after al sofar.run more.run);
           laid = laid-after (at + o) most (omega arith) sofar.laid (subst (λ a. Laid (state al s₁) a cs most (state al s₂)) place-is more.laid);
         }
 
@@ -175,7 +165,7 @@ module _ (bs cs : List ℕ) (n most : ℕ) (same : (j : ℕ) → j < most → ge
           run = subst (λ (es : List Event). Run al s es s₂)
               (ap (λ (e : Event). e ∷ (stores_of grant (o + n) cs cut.n ++ stores_of grant o bs n)) (event-after grant o cut.n cut.less (refused (Allocator Address)))
               ∙ ap (λ (es : List Event). event (store grant (o + (n + cut.n)) (get_or bs (n + cut.n) 0)) (refused (Allocator Address)) ∷ es) (stores-after grant o cut.n few))
-              (run-after sofar.run cut.run);
+              (run-after al sofar.run cut.run);
           laid = laid-after (at + o) cut.n few sofar.laid (subst (λ a. Laid (state al s₁) a cs cut.n (state al s₂)) place-is cut.laid);
         }
 

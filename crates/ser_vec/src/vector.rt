@@ -1,23 +1,32 @@
 // A vector of elements of one kind, in a span that it pushed. No call asks anything of its caller.
-ghost use Rattle.std.specs.Prelude.{◌≡◌, ◌-◌, ◌≤◌, [], ◌∷◌, IfOk, IfErr, Ok, Err, MatchResult, ◌==◌};
+ghost use Rattle.std.specs.Prelude.{◌≡◌, ◌-◌, ◌≤◌, [], ◌∷◌, IfOk, IfErr, ◌==◌};
 ghost use Rattle.session.specs.Sessions.{state};
-ghost use Rattle.ser_vec.specs.Vectors.{plain, Lives, Tested, Extending, Setting, Getting, Popping, Reserving, Telling, Clearing, Closing, Acts, Opens, ended};
+ghost use Rattle.ser_vec.specs.Vectors.{Lives, Tested, Extending, Setting, Getting, Popping, Reserving, Telling, Clearing, Closing, Acts, Opens, ended};
 
 use crate::fault::Fault;
 use crate::header::Header;
 use allocator::Allocator;
 use kind::Kind;
 use session::Session;
-use std::marker::PhantomData;
+use std::marker::{Model, PhantomData};
 
 #[derive(Drop)]
 pub struct SerVec<K> {
     // none without capacity
-    pub(crate) header: Option<Header>,
+    header: Option<Header>,
     kind: PhantomData<K>,
 }
 
-// By lemmas on the ways through a call that ask nothing of the session.
+// A clause sees a vector as what its header says.
+impl<K> Model for SerVec<K> {
+    ghost use Rattle.ser_vec.specs.Vectors.{Vector, plain};
+
+    ghost Value = { Vector };
+
+    ghost view = { λ v. plain v.header };
+}
+
+// With these lemmas the check itself proves the ways through a call that perform nothing in the session: they need no answer.
 #[tactic(auto, using(crate::proofs::Vectors::unasked))]
 impl<K: Kind> SerVec<K> {
     // Pushes a span for exactly so many elements. Without capacity it pushes nothing.
@@ -25,7 +34,7 @@ impl<K: Kind> SerVec<K> {
         session: &mut Session<A>,
         cap: usize,
     ) -> Result<SerVec<K>, Fault>
-        ensures { MatchResult result (λ v. Opens A.Allocator K.Kind cap session.old (Ok (plain v.header)) session.new) (λ f. Opens A.Allocator K.Kind cap session.old (Err f) session.new) }
+        ensures { Opens A.Allocator K.Kind cap session.old result session.new }
     {
         if cap == 0 {
             return Ok(SerVec {
@@ -51,7 +60,7 @@ impl<K: Kind> SerVec<K> {
 
     // Refused unless the session has the vector's span on record. Without capacity there is none to have.
     fn live<A: Allocator>(&self, session: &Session<A>) -> Result<(), Fault>
-        ensures { Tested K.Kind.wide (plain self.now.header) (state A.Allocator session.now) result }
+        ensures { Tested K.Kind.wide self.now (state A.Allocator session.now) result }
     {
         let Some(header) = &self.header else {
             return Ok(());
@@ -65,7 +74,7 @@ impl<K: Kind> SerVec<K> {
     }
 
     pub fn clear<A: Allocator>(&mut self, session: &Session<A>) -> Result<(), Fault>
-        ensures { Acts A.Allocator K.Kind.wide Clearing (plain self.old.header) session.now result (plain self.new.header) session.now }
+        ensures { Acts A.Allocator K.Kind.wide Clearing self.old session.now result self.new session.now }
     {
         self.live(session)?;
         if let Some(header) = &mut self.header {
@@ -76,7 +85,7 @@ impl<K: Kind> SerVec<K> {
 
     // How many elements the vector can hold.
     pub fn capacity<A: Allocator>(&self, session: &Session<A>) -> Result<usize, Fault>
-        ensures { Acts A.Allocator K.Kind.wide (Telling (plain self.now.header).capacity) (plain self.now.header) session.now result (plain self.now.header) session.now }
+        ensures { Acts A.Allocator K.Kind.wide (Telling self.now.capacity) self.now session.now result self.now session.now }
     {
         self.live(session)?;
         Ok(self.header.as_ref().map_or(0, |header| header.cap))
@@ -88,8 +97,8 @@ impl<K: Kind> SerVec<K> {
         session: &Session<A>,
         additional: usize,
     ) -> Result<(), Fault>
-        ensures step { Acts A.Allocator K.Kind.wide (Reserving additional) (plain self.now.header) session.now result (plain self.now.header) session.now }
-        ensures room { IfOk result (λ _. Lives K.Kind.wide (plain self.now.header) (state A.Allocator session.now) × (additional ≤ (plain self.now.header).capacity - (plain self.now.header).len)) }
+        ensures step { Acts A.Allocator K.Kind.wide (Reserving additional) self.now session.now result self.now session.now }
+        ensures room { IfOk result (λ _. Lives K.Kind.wide self.now (state A.Allocator session.now) × (additional ≤ self.now.capacity - self.now.len)) }
     {
         self.live(session)?;
         let room = self
@@ -107,20 +116,20 @@ impl<K: Kind> SerVec<K> {
         session: &Session<A>,
         additional: usize,
     ) -> Result<(), Fault>
-        ensures { Acts A.Allocator K.Kind.wide (Reserving additional) (plain self.now.header) session.now result (plain self.now.header) session.now }
+        ensures { Acts A.Allocator K.Kind.wide (Reserving additional) self.now session.now result self.now session.now }
     {
         self.reserve(session, additional)
     }
 
     pub fn is_empty<A: Allocator>(&self, session: &Session<A>) -> Result<bool, Fault>
-        ensures { Acts A.Allocator K.Kind.wide (Telling ((plain self.now.header).len == 0)) (plain self.now.header) session.now result (plain self.now.header) session.now }
+        ensures { Acts A.Allocator K.Kind.wide (Telling (self.now.len == 0)) self.now session.now result self.now session.now }
     {
         self.live(session)?;
         Ok(self.header.as_ref().is_none_or(|header| header.len == 0))
     }
 
     pub fn len<A: Allocator>(&self, session: &Session<A>) -> Result<usize, Fault>
-        ensures { Acts A.Allocator K.Kind.wide (Telling (plain self.now.header).len) (plain self.now.header) session.now result (plain self.now.header) session.now }
+        ensures { Acts A.Allocator K.Kind.wide (Telling self.now.len) self.now session.now result self.now session.now }
     {
         self.live(session)?;
         Ok(self.header.as_ref().map_or(0, |header| header.len))
@@ -132,7 +141,7 @@ impl<K: Kind> SerVec<K> {
         session: &mut Session<A>,
         other: &[K],
     ) -> Result<(), Fault>
-        ensures { Acts A.Allocator K.Kind.wide (Extending K.Kind other.now) (plain self.old.header) session.old result (plain self.new.header) session.new }
+        ensures { Acts A.Allocator K.Kind.wide (Extending K.Kind other.now) self.old session.old result self.new session.new }
     {
         self.reserve(session, other.len())?;
         if let Some(header) = &mut self.header {
@@ -144,7 +153,7 @@ impl<K: Kind> SerVec<K> {
 
     // Takes the last element off and answers it.
     pub fn pop<A: Allocator>(&mut self, session: &Session<A>) -> Result<Option<K>, Fault>
-        ensures { Acts A.Allocator K.Kind.wide (Popping K.Kind) (plain self.old.header) session.now result (plain self.new.header) session.now }
+        ensures { Acts A.Allocator K.Kind.wide (Popping K.Kind) self.old session.now result self.new session.now }
     {
         self.live(session)?;
         match &mut self.header {
@@ -159,7 +168,7 @@ impl<K: Kind> SerVec<K> {
 
     // Appends an element: not as a slice of one, since an array of K owes a bound on K's size, which no law of kinds gives.
     pub fn push<A: Allocator>(&mut self, session: &mut Session<A>, value: K) -> Result<(), Fault>
-        ensures { Acts A.Allocator K.Kind.wide (Extending K.Kind (value ∷ [])) (plain self.old.header) session.old result (plain self.new.header) session.new }
+        ensures { Acts A.Allocator K.Kind.wide (Extending K.Kind (value ∷ [])) self.old session.old result self.new session.new }
     {
         self.reserve(session, 1)?;
         if let Some(header) = &mut self.header {
@@ -170,7 +179,7 @@ impl<K: Kind> SerVec<K> {
     }
 
     pub fn get<A: Allocator>(&self, session: &Session<A>, index: usize) -> Result<Option<K>, Fault>
-        ensures { Acts A.Allocator K.Kind.wide (Getting K.Kind index) (plain self.now.header) session.now result (plain self.now.header) session.now }
+        ensures { Acts A.Allocator K.Kind.wide (Getting K.Kind index) self.now session.now result self.now session.now }
     {
         self.live(session)?;
         match &self.header {
@@ -185,7 +194,7 @@ impl<K: Kind> SerVec<K> {
         index: usize,
         value: K,
     ) -> Result<(), Fault>
-        ensures { Acts A.Allocator K.Kind.wide (Setting K.Kind index value) (plain self.now.header) session.old result (plain self.now.header) session.new }
+        ensures { Acts A.Allocator K.Kind.wide (Setting K.Kind index value) self.now session.old result self.now session.new }
     {
         self.live(session)?;
         match &self.header {
@@ -196,9 +205,10 @@ impl<K: Kind> SerVec<K> {
 
     // Gives the span back. A refusal hands the vector back.
     pub fn close<A: Allocator>(self, session: &mut Session<A>) -> Result<(), (SerVec<K>, Fault)>
-        ensures step { Acts A.Allocator K.Kind.wide Closing (plain self.header) session.old (ended result) (plain self.header) session.new }
-        ensures back { IfErr result (λ e. plain e.0.header ≡ plain self.header) }
+        ensures step { Acts A.Allocator K.Kind.wide Closing self session.old (ended result) self session.new }
+        ensures back { IfErr result (λ e. e.0 ≡ self) }
     {
+        // no `?`, since a refusal hands the vector back
         if let Err(fault) = self.live(session) {
             return Err((self, fault));
         }

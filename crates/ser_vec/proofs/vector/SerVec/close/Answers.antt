@@ -4,8 +4,8 @@ use Rattle.ser_vec.proofs.vector.SerVec.close.Goals as goal
 
 pub returns-in-Ok-clause-step : goal.returns-in-Ok-clause-step
 returns-in-Ok-clause-step g c =
-    rw c.in-Some.is (closing g.A.Allocator g.K.Kind c.in-Some.field-0 c.args.session.now (rw c.in-Some.is at c.in_default.ensures) c.pop.new.self c.in-Ok.ensures.step)
+    rw (← c.self.view_is, c.in-Some.is) (closing g.A.Allocator g.K.Kind c.in-Some.field-0 c.args.session.now (rw (← c.self.view_is, c.in-Some.is) at c.in_default.ensures) c.pop.new.self c.in-Ok.ensures.step)
 
 pub returns-in-Err-pop-clause-step : goal.returns-in-Err-pop-clause-step
 returns-in-Err-pop-clause-step g c =
-    rw c.in-Some.is (closing-refused g.A.Allocator g.K.Kind c.in-Some.field-0 c.args.session.now (rw c.in-Some.is at c.in_default.ensures) c.pop.new.self c.in-Err-pop.fault c.in-Err-pop.ensures.step)
+    rw (← c.self.view_is, c.in-Some.is) (closing-refused g.A.Allocator g.K.Kind c.in-Some.field-0 c.args.session.now (rw (← c.self.view_is, c.in-Some.is) at c.in_default.ensures) c.pop.new.self c.in-Err-pop.fault c.in-Err-pop.ensures.step)

@@ -10,7 +10,7 @@ returns-else-eq g c =
     let spans = (state g.A.Allocator c.args.session.now).live in (
       refl,
       λ unique lives.
-          let held = rw (c.in-Some.is, ← c.width.ensures) at lives in
+          let held = rw (← c.self.view_is, c.in-Some.is, ← c.width.ensures) at lives in
           let is : c.span_of.result ≡ Some (h.at, h.cap * c.width.result) = told-span spans h.grant.number h.at (h.cap * c.width.result) c.span_of.result unique c.span_of.ensures held in
           same-pair h.at (h.cap * c.width.result) (rw is at c.if-eq.ensures),
     )

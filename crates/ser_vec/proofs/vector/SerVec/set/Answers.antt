@@ -5,4 +5,4 @@ use Rattle.ser_vec.proofs.vector.SerVec.set.Goals as goal
 
 pub returns-in-Some : goal.returns-in-Some
 returns-in-Some g c =
-    rw c.in-Some.is (setting g.A.Allocator g.K.Kind c.in-Some.header c.args.session.now (rw c.in-Some.is at c.in_ok-live.ensures) g.met.K.Kind.exact g.met.K.Kind.again c.write.new.session c.args.index c.args.value (omega arith) c.write.result c.write.ensures)
+    rw (← c.self.view_is, c.in-Some.is) (setting g.A.Allocator g.K.Kind c.in-Some.header c.args.session.now (rw (← c.self.view_is, c.in-Some.is) at c.in_ok-live.ensures) g.met.K.Kind.exact g.met.K.Kind.again c.write.new.session c.args.index c.args.value (omega arith) c.write.result c.write.ensures)
