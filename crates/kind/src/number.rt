@@ -1,4 +1,4 @@
-// The bytes of a number and the number of some bytes, at every width: the caller's array says how wide.
+// Parts of arrays of bytes, at every width: the number that the caller makes of them, or takes them from, says how wide.
 ghost use Rattle.std.specs.Prelude.{◌≡◌, ◌+◌, ◌≤◌, take, drop, slice_index};
 
 // The byte at that index, and 0 past the last.
