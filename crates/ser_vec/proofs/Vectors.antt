@@ -18,7 +18,7 @@ use Rattle.session.specs.declared.session.Session.{Session}
 use Rattle.session.specs.Records.{Unique}
 use Rattle.session.proofs.Records.{grants-unique}
 use Rattle.ser_vec.specs.Elements.{element_at, packings, stores_of, stores_cut, loads_of, loads_cut, source, Room, Reads, Writes}
-use Rattle.ser_vec.specs.Vectors.{clears, tells, absent, none, beyond, spanless, Vector, new_vector, plain, resized, Lives, Tested, Rule, not_live, live, Guarded, Reserving, enough, lacking, Extending, full, extended, extend_cut, Setting, replaced, set_cut, Getting, got, get_cut, Popping, popped, pop_cut, Closing, closed, stays, Opening, placed, unplaced, Went, Acts}
+use Rattle.ser_vec.specs.Vectors.{clears, tells, absent, none, beyond, spanless, Vector, new_vector, plain, Formed, resized, Lives, Tested, Rule, not_live, live, Guarded, Reserving, enough, lacking, Extending, full, extended, extend_cut, Setting, replaced, set_cut, Getting, got, get_cut, Popping, popped, pop_cut, Closing, closed, stays, Opening, placed, unplaced, Went, Acts}
 use Rattle.ser_vec.specs.declared.fault.Fault.{Fault}
 use Rattle.ser_vec.specs.declared.fault.Fault.TheVariants.{Session as Nested}
 use Rattle.ser_vec.specs.declared.header.Header.{Header}
@@ -38,13 +38,26 @@ told-span spans grant at size (Some (at', size')) unique (one, here, e, ea, es) 
 pub same-pair : (a b : ℕ) → false ≡ (eqb a a && eqb b b) → ⊥
 same-pair a b differ = false≢true (differ ∙ rw (eq-eqb a a refl, eq-eqb b b refl))
 
+pub formed : (h : Option Header) {v : Vector} → plain h ≡ v → Formed v
+formed h is = record { header = h; is = is }
+
+-- a vector of another length that its capacity allows
+pub formed-resized : (h : Header) (len : ℕ) → len ≤ h.cap → Formed (resized (plain (Some h)) len)
+formed-resized h len fits = formed (Some (record { grant = h.grant; at = h.at; cap = h.cap; len = len; some = h.some; small = h.small; fits = fits })) refl
+
+-- what a call did is told of formed vectors
+acts : {A X : Type 0} {al : Ghosts A} {w : ℕ} {Does : Rule X} {v v' : Vector} {s s' : Session A} {r : Result X Fault} → Formed v → Formed v' →
+    Went al s s' (λ events. Guarded w Does v (state al s) r events v' (state al s')) → Acts al w Does v s r v' s'
+acts before after went = record { events = went.events; run = went.run; rule = (before, after, went.rule) }
+
 module _ {A X : Type 0} {al : Ghosts A} {w : ℕ} {Does : Rule X} {v : Vector} {s : Session A} {r : Result X Fault} where
   pub dead : {fault : Fault} → Tested w v (state al s) (Err fault) → r ≡ Err fault → Acts al w Does v s r v s
-  dead (why, denied) e = record { events = []; run = opened; rule = rw (e, why) (not_live (denied (grants-unique al s))) }
+  dead (why, denied, is) e =
+      acts is is (record { events = []; run = opened; rule = rw (e, why) (not_live (denied (grants-unique al s))) })
 
   -- a call that asks nothing of the session
-  pub alone : {v' : Vector} → Lives w v (state al s) → Does v (state al s) r [] v' (state al s) → Acts al w Does v s r v' s
-  alone lives does = record { events = []; run = opened; rule = live lives does }
+  pub alone : {v' : Vector} → Formed v → Formed v' → Lives w v (state al s) → Does v (state al s) r [] v' (state al s) → Acts al w Does v s r v' s
+  alone before after lives does = acts before after (record { events = []; run = opened; rule = live lives does })
 
 -- what does not fit is not appended
 refused-guarded : {K : Type 0} {kind : kinds.Ghosts K} {w : ℕ} {xs : List K} {v : Vector} {s : State} {r : Result (Unit {0}) Fault} {events : List Event} {v' : Vector} {s' : State} {fault : Fault} →
@@ -56,11 +69,11 @@ refused-guarded e (live lives (lacking short)) = live lives (full short)
 pub unfit : {A K : Type 0} {al : Ghosts A} {kind : kinds.Ghosts K} {w : ℕ} {xs : List K} {v : Vector} {s : Session A} {r : Result (Unit {0}) Fault} {fault : Fault} →
     Acts al w (Reserving (length xs)) v s (Err fault) v s → r ≡ Err fault → Acts al w (Extending kind xs) v s r v s
 unfit told e =
-    let went = told in
-    rw e (record { events = went.events; run = went.run; rule = refused-guarded refl went.rule })
+    let (before, after, rule) = told.rule in
+    rw e (record { events = told.events; run = told.run; rule = (before, after, refused-guarded refl rule) })
 
 -- the ways through a call that ask nothing of the session
-pub ruleset unasked = (failed, dead, alone, unfit, tells, clears, enough, lacking, absent, none, beyond, spanless)
+pub ruleset unasked = (failed, formed, alone, unfit, tells, clears, enough, lacking, absent, none, beyond, spanless)
 
 -- the answer and the vector after a call
 abbrev pub some_of : {K : Type 0} → Result K Fault → Result (Option K) Fault
@@ -81,6 +94,9 @@ module _ {A K : Type 0} (al : Ghosts A) (kind : kinds.Ghosts K) (h : Header) (s 
   abbrev g : ℕ
   g = h.grant.number
 
+  stands : Formed v
+  stands = formed (Some h) refl
+
   room : (i n : ℕ) → i + n ≤ h.cap → Room al s g h.at (i * w) (n * w)
   room i n inside =
       record { size = h.cap * w; held = lives; inside = omega (arith, add-mul i n w, mul-le-mul_right w inside) }
@@ -91,14 +107,14 @@ module _ {A K : Type 0} (al : Ghosts A) (kind : kinds.Ghosts K) (h : Header) (s 
   pub getting : (i : ℕ) → i < h.len → (r : Result K Fault) → (Room al s g h.at (i * w) w → Reads al kind s g h.at (i * w) r) → Acts al w (Getting kind i) v s (some_of r) v s
   getting i less (Ok x) told =
       let loaded = told (room-one i (omega arith)) in
-      record {
+      acts stands stands (record {
         events = loads_of g (i * w) (source al s g h.at (i * w) kind) w;
         run = loaded.run;
         rule = live lives (got x less (loaded.value ∙ sym (get_or-map-range_with_len (element_at kind (state al s).memory h.at) 0 h.len i i x less (omega arith))));
-      }
+      })
   getting i less (Err fault) told =
       let (why, cut) = told (room-one i (omega arith)) in
-      record { events = loads_cut g (i * w) (source al s g h.at (i * w) kind) cut.n; run = cut.run; rule = rw why (live lives (get_cut cut.n less cut.less)) }
+      acts stands stands (record { events = loads_cut g (i * w) (source al s g h.at (i * w) kind) cut.n; run = cut.run; rule = rw why (live lives (get_cut cut.n less cut.less)) })
 
   pub popping : 0 < h.len → (r : Result K Fault) → (Room al s g h.at ((h.len - 1) * w) w → Reads al kind s g h.at ((h.len - 1) * w) r) → Acts al w (Popping kind) v s (some_of r) (resized_if v (h.len - 1) r) s
   popping some (Ok x) told =
@@ -108,10 +124,10 @@ module _ {A K : Type 0} (al : Ghosts A) (kind : kinds.Ghosts K) (h : Header) (s 
       let split : map f (range_with_len 0 h.len) ≡ map f (range_with_len 0 (h.len - 1)) ++ x ∷ [] =
       ap (λ n. map f (range_with_len 0 n)) is_len ∙ map-range_with_len_more f 0 (h.len - 1) (h.len - 1) (omega arith)
       ∙ ap (λ y. map f (range_with_len 0 (h.len - 1)) ++ y ∷ []) (sym loaded.value) in
-      record { events = loads_of g ((h.len - 1) * w) (source al s g h.at ((h.len - 1) * w) kind) w; run = loaded.run; rule = live lives (popped x some split) }
+      acts stands (formed-resized h (h.len - 1) (omega (arith, h.fits))) (record { events = loads_of g ((h.len - 1) * w) (source al s g h.at ((h.len - 1) * w) kind) w; run = loaded.run; rule = live lives (popped x some split) })
   popping some (Err fault) told =
       let (why, cut) = told (room-one (h.len - 1) (omega arith)) in
-      record { events = loads_cut g ((h.len - 1) * w) (source al s g h.at ((h.len - 1) * w) kind) cut.n; run = cut.run; rule = rw why (live lives (pop_cut cut.n some cut.less)) }
+      acts stands stands (record { events = loads_cut g ((h.len - 1) * w) (source al s g h.at ((h.len - 1) * w) kind) cut.n; run = cut.run; rule = rw why (live lives (pop_cut cut.n some cut.less)) })
 
   module _ (exact : (x : K) → length (kind.packed x) ≡ kind.wide) (again : (x : K) → kind.unpacked (kind.packed x) ≡ x) (s' : Session A) where
     pub extending : (xs : List K) → length xs ≤ h.cap - h.len → (r : Result (Unit {0}) Fault) →
@@ -119,43 +135,43 @@ module _ {A K : Type 0} (al : Ghosts A) (kind : kinds.Ghosts K) (h : Header) (s 
         Acts al w (Extending kind xs) v s r (resized_if v (h.len + length xs) r) s'
     extending xs fits (Ok u) told =
         let stored = told (room h.len (length xs) (omega (arith, h.fits))) in
-        record {
+        acts stands (formed-resized h (h.len + length xs) (omega (arith, h.fits))) (record {
           events = stores_of g (h.len * w) (packings kind xs) (length xs * w);
           run = stored.run;
           rule = live lives (extended fits (elements-extended kind exact again (state al s).memory (state al s').memory h.at h.len xs stored.laid.there (λ to low. stored.laid.elsewhere to (inl low))));
-        }
+        })
     extending xs fits (Err fault) told =
         let (why, cut) = told (room h.len (length xs) (omega (arith, h.fits))) in
-        record {
+        acts stands stands (record {
           events = stores_cut g (h.len * w) (packings kind xs) cut.n;
           run = cut.run;
           rule = rw why (live lives (extend_cut cut.n fits cut.less (elements-kept kind exact again (state al s).memory (state al s').memory h.at h.len (λ to low. cut.laid.elsewhere to (inl low)))));
-        }
+        })
 
     pub setting : (i : ℕ) (x : K) → i < h.len → (r : Result (Unit {0}) Fault) → (Room al s g h.at (i * w) (1 * w) → Writes al s g h.at (i * w) (packings kind (x ∷ [])) (1 * w) r s') →
         Acts al w (Setting kind i x) v s r v s'
     setting i x less (Ok u) told =
         let stored = told (room i 1 (omega (arith, h.fits))) in
-        record {
+        acts stands stands (record {
           events = stores_of g (i * w) (packings kind (x ∷ [])) (1 * w);
           run = stored.run;
           rule = live lives (replaced less (elements-replaced kind exact again (state al s).memory (state al s').memory h.at h.len i stored.laid.elsewhere x less stored.laid.there));
-        }
+        })
     setting i x less (Err fault) told =
         let (why, cut) = told (room i 1 (omega (arith, h.fits))) in
-        record {
+        acts stands stands (record {
           events = stores_cut g (i * w) (packings kind (x ∷ [])) cut.n;
           run = cut.run;
           rule = rw why (live lives (set_cut cut.n less cut.less (others-kept kind exact again (state al s).memory (state al s').memory h.at h.len i
               (λ to out. cut.laid.elsewhere to (elim out [ inl low ↦ inl low | inr high ↦ inr (omega (arith, cut.less)) ])))));
-        }
+        })
 
   module _ (s' : Session A) where
     pub closing : Performs al s (pop g) done s' → Acts al w Closing v s (Ok tt) v s'
-    closing performs = record { events = event (pop g) done ∷ []; run = visited opened performs; rule = live lives (closed h.some) }
+    closing performs = acts stands stands (record { events = event (pop g) done ∷ []; run = visited opened performs; rule = live lives (closed h.some) })
 
     pub closing-refused : (fault : session.Fault) → Performs al s (pop g) (refused fault) s' → Acts al w Closing v s (Err (Nested fault)) v s'
-    closing-refused fault performs = record { events = event (pop g) (refused fault) ∷ []; run = visited opened performs; rule = live lives (stays fault h.some) }
+    closing-refused fault performs = acts stands stands (record { events = event (pop g) (refused fault) ∷ []; run = visited opened performs; rule = live lives (stays fault h.some) })
 
 -- opening
 served-live : {s : State} {size align n at : ℕ} {s' : State} → Step s (push size align) (granted n at) s' → s'.live ≡ new_span n at size align ∷ s.live

@@ -33,6 +33,11 @@ abbrev pub plain : Option Header → Vector
 plain None = new_vector None 0 0 0
 plain (Some h) = new_vector (Some h.grant) h.at h.cap h.len
 
+-- a vector is formed if a header says it, and then its length is at most its capacity
+pub record Formed (v : Vector) : Type 0 where
+  pub header : Option Header
+  pub is : plain header ≡ v
+
 abbrev pub resized : Vector → ℕ → Vector
 resized v len = new_vector v.grant v.at v.capacity len
 
@@ -51,8 +56,8 @@ Lives wide v s = Placed s.live v.at (v.capacity * wide) v.grant
 
 -- what the test of a vector's span tells
 abbrev pub Tested : ℕ → Vector → State → Result (Unit {0}) Fault → Type 0
-Tested wide v s (Ok u) = Lives wide v s
-Tested wide v s (Err fault) = (fault ≡ Nested NotLive) × (Unique s.live → Lives wide v s → ⊥)
+Tested wide v s (Ok u) = Lives wide v s × Formed v
+Tested wide v s (Err fault) = (fault ≡ Nested NotLive) × (Unique s.live → Lives wide v s → ⊥) × Formed v
 
 -- the vector's elements, as they lie in the session's memory
 abbrev pub elements : {K : Type 0} → kinds.Ghosts K → Vector → State → List K
@@ -137,9 +142,9 @@ pub record Went {A : Type 0} (allocator : Ghosts A) (s s' : Session A) (Of : Lis
   pub run : Run allocator s events s'
   pub rule : Of events
 
--- what a call did
+-- what a call did, to a vector that is formed before and after
 abbrev pub Acts : {A X : Type 0} → Ghosts A → ℕ → Rule X → Vector → Session A → Result X Fault → Vector → Session A → Type 0
-Acts allocator wide Does v s r v' s' = Went allocator s s' (λ events. Guarded wide Does v (state allocator s) r events v' (state allocator s'))
+Acts allocator wide Does v s r v' s' = Went allocator s s' (λ events. Formed v × Formed v' × Guarded wide Does v (state allocator s) r events v' (state allocator s'))
 
 abbrev pub Opens : {A K : Type 0} → Ghosts A → kinds.Ghosts K → ℕ → Session A → Result Vector Fault → Session A → Type 0
 Opens allocator kind capacity s r s' = Went allocator s s' (λ events. Opening kind capacity (state allocator s) r events (state allocator s'))

@@ -1,9 +1,9 @@
 -- Elements are appended to a live vector that has room for them.
-use Rattle.std.proofs.Common.{◌≡◌, length, Ok, Err, refl, arith}
+use Rattle.std.proofs.Common.{◌≡◌, length, None, Ok, Err, refl, arith}
 use Rattle.std.proofs.lemmas.List.{nil_from_length}
 use Rattle.ser_vec.specs.Vectors.{nothing}
 use Rattle.ser_vec.proofs.Stores.{failed}
-use Rattle.ser_vec.proofs.Vectors.{alone, extending}
+use Rattle.ser_vec.proofs.Vectors.{formed, alone, extending}
 use Rattle.ser_vec.proofs.vector.SerVec.extend_from_slice.Goals.{in-Some+in_ok-write_all, in_default}
 use Rattle.ser_vec.proofs.vector.SerVec.extend_from_slice.Goals as goal
 
@@ -23,5 +23,5 @@ returns g c =
       | in_default w ↦
           let (lives, fits) = rw (← c.self.view_is, w.in_default.is) at c.in_ok-reserve.ensures.room in
           let none : length c.args.other.now ≡ 0 = omega arith in
-          rw (w.session-is, w.self-inside-is, ← c.self.view_is, w.in_default.is) (alone lives (nothing refl (nil_from_length c.args.other.now none)))
+          rw (w.session-is, w.self-inside-is, ← c.self.view_is, w.in_default.is) (alone (formed None refl) (formed None refl) lives (nothing refl (nil_from_length c.args.other.now none)))
     ]
