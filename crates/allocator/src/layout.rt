@@ -17,7 +17,7 @@ pub struct Layout {
     ghost divides: { 4096 % align ≡ 0 },
 }
 
-// One byte, at any address.
+// One byte, at any address. By hand, since a derived one would have the size 0.
 impl Default for Layout {
     ghost is_default = { λ l. (l.size ≡ 1) × (l.align ≡ 1) };
 

@@ -8,6 +8,7 @@ use allocator::Allocator;
 use kind::Kind;
 use session::Session;
 
+// `Room` is a premise in the clauses and no `requires`, so that a call is safe in a session that has lost the span.
 impl Header {
     // Stores the packing of an element, at that index.
     pub(crate) fn write<K: Kind, A: Allocator>(
