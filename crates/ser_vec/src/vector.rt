@@ -111,6 +111,7 @@ impl<K: Kind> SerVec<K> {
         Ok(())
     }
 
+    // The source's other name for it: no more than what is asked is ever reserved.
     pub fn reserve_exact<A: Allocator>(
         &self,
         session: &Session<A>,

@@ -44,7 +44,7 @@ pub fn enter<S: BlockSource>(arena: Arena<S>) -> Session<ArenaHandle<S>>
     Session::open(arena.acquire())
 }
 
-// Ends that use: the idle arena again.
+// Ends that use: the idle arena again. Beside `end`, as `enter` beside `begin`.
 pub fn leave<S: BlockSource>(session: Session<ArenaHandle<S>>) -> Arena<S>
     ensures released { Released S.BlockSource session.inner result }
     ensures leaves { Leaves S.BlockSource session.inner result }
