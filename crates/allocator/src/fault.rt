@@ -24,7 +24,8 @@ pub enum Fault {
 }
 
 impl Fault {
-    // The number that users know the refusal by. It is no discriminant, since a variant has a payload.
+    // The number that users know the refusal by: each type of refusal has numbers of its own. It is no
+    // discriminant, since a variant has a payload.
     pub fn number(self) -> u32
         ensures { result ≡ refusal self }
     {

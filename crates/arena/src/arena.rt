@@ -24,7 +24,7 @@ pub struct Arena<S: BlockSource> {
 #[derive(Drop)]
 pub struct ArenaHandle<S: BlockSource> {
     arena: Arena<S>,
-    // how many usable bytes of the newest block are taken
+    // The mark: how many usable bytes of the newest block are taken. No Vec, since the bytes are the source's.
     used: usize,
     ghost marked: { used ≤ room (blocks_of arena.ring) },
 }

@@ -16,7 +16,7 @@ pub enum ArenaFault {
 }
 
 impl ArenaFault {
-    // The number that users know the refusal by.
+    // The number that users know the refusal by: each type of refusal has numbers of its own.
     pub fn number(self) -> u32
         ensures { result ≡ refusal self }
     {
@@ -24,7 +24,7 @@ impl ArenaFault {
     }
 }
 
-// As every refusal that is printed; each type has an impl of its own, since a macro may write none.
+// By hand: a derive's Display has no contract that says what it prints.
 impl fmt::Display for ArenaFault {
     ghost output = { λ f. Some (refusal_text f) };
 
@@ -36,6 +36,7 @@ impl fmt::Display for ArenaFault {
 
 impl Error for ArenaFault {}
 
+// What a refusal of the source is to who opens the arena.
 impl From<SourceFault> for ArenaFault {
     ghost from_gives = { λ e f. f ≡ fault_of e };
 

@@ -33,7 +33,7 @@ impl BlockRecord {
         self.size - 16
     }
 
-    // The same block, linked to that place.
+    // The same block, linked to that place. By its fields, since `..` is refused beside ghost fields.
     pub(crate) fn linked_to(self, next: usize) -> BlockRecord
         ensures { result ≡ record self { next = next } }
     {
@@ -44,7 +44,8 @@ impl BlockRecord {
         }
     }
 
-    // Is the address one of the first so many usable bytes?
+    // Is the address one of the first so many usable bytes? Beside the tests of `SubAllocator` and `Region`, whose bytes
+    // begin elsewhere.
     pub(crate) fn covers(self, many: usize, at: usize) -> bool
         ensures { result ≡ spans (self.address + 16) many at }
     {

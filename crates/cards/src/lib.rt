@@ -22,8 +22,8 @@ pub const MOST_BYTES: usize = 32_768;
 
 const MOST_ENTRIES: usize = 4096;
 
-/// What an entry does: a push with an alignment of 1, 2, 4, 8 or 16, a vector of positions or of cues, or the plain pop. Its number is that of the
-/// character that writes it.
+/// What an entry does: a push with an alignment of 1, 2, 4, 8 or 16, a vector of positions or of cues, or the plain pop.
+/// Its number is that of the character that writes it: b, h, w, d, q, v, c or p.
 #[derive(Clone, Copy, PartialEq, Eq, Debug)]
 pub enum Letter {
     Byte = 98,
@@ -52,7 +52,8 @@ impl Letter {
     }
 }
 
-/// The letter that the character writes; a character that writes none is refused. By a table, since no conversion leads from a number to a variant.
+/// The letter that the character writes; a character that writes none is refused. By a table, since a search over the
+/// variants would list them just the same.
 impl TryFrom<char> for Letter {
     type Error = Fault;
 
@@ -105,6 +106,7 @@ pub enum Fault {
 }
 
 impl Fault {
+    /// The number that users know the refusal by: each type of refusal has numbers of its own.
     pub fn number(self) -> u32
         ensures { result ≡ refusal self }
     {
@@ -112,7 +114,7 @@ impl Fault {
     }
 }
 
-// As every refusal that is printed; each type has an impl of its own, since a macro may write none.
+// By hand: a derive's Display has no contract that says what it prints.
 impl fmt::Display for Fault {
     ghost output = { λ f. Some (refusal_text f) };
 

@@ -10,6 +10,7 @@ use Rattle.arena.specs.Arenas.{Arena}
 use Rattle.arena.proofs.Table.{least_power_of-least}
 use Rattle.figures.specs.Figures.{Makes, GrowsTo4096, ArenaFigures}
 
+-- A figure a lemma: of several computed in one answer the check would not say which is wrong.
 of-0 : least_power_of 16 ≡ 16
 unfolding least_power_of
 of-0 = refl

@@ -52,7 +52,8 @@ fn pushed(entry: Entry) -> Option<(usize, usize)>
     ensures { MatchOption result (call_of entry ≡ pop_newest) (λ p. call_of entry ≡ push p.0 p.1) }
 {
     match entry.letter {
-        // A product past the largest number stops there: it is refused for its size either way.
+        // The widths and alignments are those that the crate kind gives positions and cues. A product past the largest
+        // number stops there: it is refused for its size either way.
         Letter::Positions => Some((entry.size.saturating_mul(4), 4)),
         Letter::Cues => Some((entry.size.saturating_mul(16), 8)),
         letter => Some((entry.size, letter.align()?)),

@@ -8,7 +8,8 @@ pub(crate) fn byte_of<const N: usize>(bytes: [u8; N], i: usize) -> u8
     bytes.get(i).copied().unwrap_or(0)
 }
 
-// The bytes that begin at that index.
+// The bytes that begin at that index. The array is as wide as a kind may be: one of the kind's own width would want a
+// computed const argument.
 pub(crate) fn bytes_at<const N: usize>(bytes: &[u8; 64], at: usize) -> [u8; N]
     requires { at + N ≤ 64 }
     ensures { result ≡ take N (drop at bytes.now) }

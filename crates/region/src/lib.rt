@@ -76,7 +76,7 @@ impl Region {
         self.slots.iter().any(|slot| slot.contains(at))
     }
 
-    // Where in the buffer the byte of a block's address is.
+    // Where in the buffer the byte of a block's address is. Beside that of `SubAllocator`: there all bytes are one block.
     fn place(&self, at: usize) -> Result<usize, SourceFault>
         ensures found { IfOk result (λ i. (at ≡ 4096 + i) × (i < length self.now.bytes.items) × (within (blocks self.now.bytes.items self.now.slots.items) at ≡ true)) }
         ensures lost { IfErr result (λ fault. (fault ≡ Address) × (within (blocks self.now.bytes.items self.now.slots.items) at ≡ false)) }
@@ -129,6 +129,7 @@ impl BlockSource for Region {
         Ok(())
     }
 
+    // Beside those of `SubAllocator`, which are as short: each trait has its own load and store.
     fn load(&self, at: usize) -> Result<u8, SourceFault> {
         let i = self.place(at)?;
         Ok(self.bytes[i])

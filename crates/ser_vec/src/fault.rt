@@ -12,7 +12,8 @@ pub enum Fault {
 }
 
 impl Fault {
-    // The number that users know the refusal by. It is no discriminant, since a variant has a payload.
+    // The number that users know the refusal by: each type of refusal has numbers of its own. It is no
+    // discriminant, since a variant has a payload.
     pub fn number(self) -> u32
         ensures { result ≡ refusal self }
     {
@@ -23,6 +24,7 @@ impl Fault {
     }
 }
 
+// A refusal of the session, passed on by `?`; each such pair of types has an impl of its own.
 impl From<session::Fault> for Fault {
     ghost from_gives = { λ e r. r ≡ Session e };
 

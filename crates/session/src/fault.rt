@@ -20,7 +20,8 @@ pub enum Fault {
 }
 
 impl Fault {
-    // The number that users know the refusal by. It is no discriminant, since a variant has a payload.
+    // The number that users know the refusal by: each type of refusal has numbers of its own. It is no
+    // discriminant, since a variant has a payload.
     pub fn number(self) -> u32
         ensures { result ≡ refusal self }
     {
@@ -34,7 +35,7 @@ impl Fault {
     }
 }
 
-// As every refusal that is printed; each type has an impl of its own, since a macro may write none.
+// By hand: a derive's Display has no contract that says what it prints.
 impl fmt::Display for Fault {
     ghost output = { λ f. Some (refusal_text f) };
 
@@ -46,6 +47,7 @@ impl fmt::Display for Fault {
 
 impl Error for Fault {}
 
+// A refusal of the allocator, passed on by `?`; each such pair of types has an impl of its own.
 impl From<allocator::Fault> for Fault {
     ghost from_gives = { λ e r. r ≡ Allocator e };
 

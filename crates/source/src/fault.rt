@@ -15,7 +15,7 @@ pub enum SourceFault {
 }
 
 impl SourceFault {
-    // The number that users know the refusal by.
+    // The number that users know the refusal by: each type of refusal has numbers of its own.
     pub fn number(self) -> u32
         ensures { result ≡ refusal self }
     {

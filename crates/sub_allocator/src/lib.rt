@@ -54,7 +54,8 @@ impl<'a> SubAllocator<'a> {
         self.bytes.len().min(140737488355328)
     }
 
-    // Where in the buffer the byte of a taken address is.
+    // Where in the buffer the byte of a taken address is. Beside that of `Region`: there an address is of one of many
+    // blocks.
     fn place(&self, at: usize) -> Result<usize, Fault>
         ensures found { IfOk result (λ i. (at ≡ self.now.base + i) × (i < self.now.used)) }
         ensures lost { IfErr result (λ fault. (fault ≡ Address) × (taken (fixed self.now.base self.now.used self.now.bytes.now) at ≡ false)) }
@@ -79,6 +80,7 @@ impl<'a> Allocator for SubAllocator<'a> {
     ghost stores = { λ s at byte r t. (t.bytes.now ≡ stored_in s.base s.used s.bytes.now at byte) × (t.bytes.ghost_name ≡ s.bytes.ghost_name) };
 
     fn push_alloc(&mut self, layout: Layout) -> Result<usize, Fault> {
+        // Beside `ArenaHandle`, which grows where this refuses: what both compute is `Layout`'s.
         let top = self.base + self.used;
         let pad = layout.align_offset(top);
         let wanted = pad + layout.size();

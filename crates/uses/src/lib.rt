@@ -52,8 +52,8 @@ pub fn leave<S: BlockSource>(session: Session<ArenaHandle<S>>) -> Arena<S>
     session.finish().release()
 }
 
-// Begins a use of the arena: a session over a tracker of its handle. Beside `enter`, since a tracker has statistics to promise and to answer: a trait
-// over both would need two impls for two lines.
+// Begins a use of the arena: a session over a tracker of its handle. Beside `enter`, since a tracker has statistics to
+// promise and to answer: a trait over both would need two impls for two lines.
 pub fn begin<S: BlockSource>(arena: Arena<S>) -> Session<AllocationTracker<ArenaHandle<S>>>
     ensures acquired { Acquired S.BlockSource arena result.inner.inner }
     ensures stats { result.inner.stats ≡ unused }

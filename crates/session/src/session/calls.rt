@@ -131,7 +131,8 @@ impl<A: Allocator> Session<A> {
 }
 
 impl<T: Allocator> Session<AllocationTracker<T>> {
-    // Opens a session over a new tracker, whose statistics are then those of the session's ledger.
+    // Opens a session over a new tracker, whose statistics are then those of the session's ledger: what it promises above
+    // `open`.
     pub fn track(inner: T) -> Session<AllocationTracker<T>>
         ensures inner { result.inner.inner ≡ inner }
         ensures stats { result.inner.stats ≡ unused }

@@ -1,4 +1,5 @@
--- An element is appended to a live vector that is not full.
+-- An element is appended to a live vector that is not full. Beside those of extend_from_slice: the goals are of another
+-- call, and what the two share is the lemma `extending`.
 use Rattle.std.proofs.Common.{[], ◌∷◌, Ok, Err, arith}
 use Rattle.ser_vec.proofs.Stores.{failed}
 use Rattle.ser_vec.proofs.Vectors.{unfit, extending}
