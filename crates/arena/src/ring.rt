@@ -81,6 +81,10 @@ impl Ring {
     pub(crate) fn keep_newest(&mut self)
         ensures { chain self.new.records.items ≡ newest (chain self.old.records.items) }
     {
+        // one that is alone already stays as it is
+        if self.records.len() <= 1 {
+            return;
+        }
         if let Some(tail) = self.tail() {
             self.records.clear();
             self.records.push(tail.linked_to(0));

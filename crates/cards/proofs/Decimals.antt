@@ -1,15 +1,13 @@
 -- What the digits that a text begins with tell of the number there. Assumes nothing.
-use Rattle.std.proofs.Common.{◌≡◌, ℕ, ◌+◌, ◌^◌, ◌<◌, ◌≤◌, List, ◌∷◌, ◌++◌, length, get_or, take, drop, decimal, Result, Ok, Err, sym, refl, ap, ◌∙◌, subst, inl, inr, arith}
-use Rattle.std.specs.Option.{MatchOption}
-use Rattle.std.specs.Result.{result_ok}
-use Rattle.std.specs.Str.{IsUtf8}
-use Rattle.std.specs.Str.Parse.{digits_value, ParsesUnsigned}
+use Rattle.std.proofs.Common.{◌≡◌, ℕ, ◌+◌, ◌-◌, ◌*◌, ◌^◌, ◌<◌, ◌≤◌, List, ◌∷◌, ◌++◌, length, get_or, take, drop, decimal, sym, refl, ap, ◌∙◌, subst, inl, inr, arith, rules}
+use Rattle.std.specs.Str.Parse.{digits_value}
 use Rattle.std.specs.Int.{IsInRange}
+use Rattle.std.specs.Char.{digit_value}
 use Rattle.std.proofs.lemmas.Fmt.{decimal-digits_value, digits_decimal, digits_value-decimal, decimal_nonempty, decimal_digit, first_decimal, length-decimal-le}
-use Rattle.std.proofs.lemmas.List.{take_at, drop_at, get_or_at, get_or_past, get_or-take, get_or_append_left, length-append, length-take-le, take-append-drop}
-use Rattle.std.proofs.lemmas.Str.Parse.{IsNumeralModel, numerals_by_value, tells_by_index, digits_value_short, parse_digits}
-use Rattle.std.proofs.lemmas.Str.{IsUtf8-from_ascii}
-use Rattle.std.proofs.lemmas.Bool.{cases_lt, cases_order}
+use Rattle.std.proofs.lemmas.Int.Digits.{digits_value_more}
+use Rattle.std.proofs.lemmas.List.{take_at, drop_at, get_or_at, get_or-take, get_or_append_left, length-append, length-take-le, take-append-drop}
+use Rattle.std.proofs.lemmas.Str.Parse.{IsNumeralModel, numerals_by_value, tells_by_index, digits_value_short}
+use Rattle.std.proofs.lemmas.Bool.{cases_order}
 use Rattle.cards.specs.Digits.{AllDigits, Run, Canonical}
 
 own : IsNumeralModel AllDigits (digits_value 10)
@@ -20,16 +18,16 @@ front ds i le all k lt =
     let below : k < i = omega (arith, length-take-le i ds le) in
     subst (IsInRange 48 57) (sym (get_or-take i ds k 0 below)) (all k below)
 
-pub digits-text : (ds : List ℕ) → AllDigits ds → IsUtf8 ds
-digits-text ds all =
-    IsUtf8-from_ascii ds (λ k. elim (cases_lt k (length ds)) [ inl lt ↦ omega (arith, all k lt) | inr ge ↦ omega (arith, get_or_past ds k 0 ge) ])
+-- with one digit more, ten times the number and the digit
+digit : (c : ℕ) → IsInRange 48 57 c → digit_value c ≡ c - 48
+digit c h = search rules
 
--- what the library parses of the digits
-pub parsed : {E : Type 0} (ds : List ℕ) (r : Result ℕ E) → ParsesUnsigned 64 10 ds r → AllDigits ds → length ds ≤ 8 → (get_or ds 0 0 ≡ 48 → length ds ≤ 1) → MatchOption (result_ok r) (Canonical ds → ⊥) (λ n. Canonical ds × (n ≡ digits_value 10 ds))
-parsed {E} ds (Ok n) p all few zero =
-    let told = parse_digits own {E = E} 64 ds (Ok n) p all in
-    (record { some = told.0.0; few = few; zero = λ e. omega (arith, zero e, told.0.0) }, told.1)
-parsed {E} ds (Err e) p all few zero = λ form. parse_digits own {E = E} 64 ds (Err e) p all (form.some, omega (arith, digits_value_short own ds 8 all few))
+pub value-step : (ds : List ℕ) (i : ℕ) → AllDigits ds → i < length ds → digits_value 10 (take (i + 1) ds) ≡ digits_value 10 (take i ds) * 10 + (get_or ds i 0 - 48)
+value-step ds i all lt = digits_value_more 10 ds i lt ∙ ap (λ d. digits_value 10 (take i ds) * 10 + d) (digit _ (all i lt))
+
+pub value-small : (ds : List ℕ) (i : ℕ) → AllDigits ds → i ≤ length ds → length ds ≤ 8 → digits_value 10 (take i ds) < 10 ^ 8
+value-small ds i all le few =
+    digits_value_short own (take i ds) 8 (front ds i le (λ k lt. all k (omega arith))) (omega (arith, length-take-le i ds le))
 
 canonical-decimal : (n : ℕ) → n ≤ 99999999 → Canonical (decimal n)
 canonical-decimal n small =

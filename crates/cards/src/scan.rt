@@ -2,8 +2,6 @@ ghost use Rattle.std.specs.Prelude.{◌≡◌, ℕ, ◌<◌, ◌≤◌, List, �
 ghost use Rattle.std.specs.Str.Parse.{digits_value};
 ghost use Rattle.cards.specs.Digits.{AllDigits, Run, Canonical};
 
-use std::str;
-
 /// The largest number, 99,999,999, has eight digits.
 const MOST_DIGITS: usize = 8;
 
@@ -19,10 +17,15 @@ fn to_number(digits: &[u8]) -> Option<usize>
     requires { AllDigits digits.now }
     ensures { MatchOption result (Canonical digits.now → ⊥) (λ n. Canonical digits.now × (n ≡ digits_value 10 digits.now)) }
 {
-    if digits.len() > MOST_DIGITS || digits.len() > 1 && digits[0] == b'0' {
+    if digits.is_empty() || digits.len() > MOST_DIGITS || digits.len() > 1 && digits[0] == b'0' {
         return None;
     }
-    str::from_utf8(digits).ok()?.parse().ok()
+    // By hand: as text to the library's parse, each of a card's numbers would be read three times, and take twice the time.
+    let mut n = 0;
+    for digit in digits {
+        n = n * 10 + usize::from(*digit - b'0');
+    }
+    Some(n)
 }
 
 /// The number that the text begins with, and what follows it.

@@ -40,7 +40,7 @@ cue_from bs = made_from 32 (made_from 32 (made_from 64 cue (take 8 bs)) (take 4 
 
 module _ {T : Type 0} (k : ℕ) (make : (n : ℕ) → n < 2 ^ k → T) where
   -- the same of the same number
-  made-same : {a b : ℕ} → a ≡ b → (p : a < 2 ^ k) (q : b < 2 ^ k) → make a p ≡ make b q
+  pub made-same : {a b : ℕ} → a ≡ b → (p : a < 2 ^ k) (q : b < 2 ^ k) → make a p ≡ make b q
   made-same {a = a} e p q = subst (λ n. (h : n < 2 ^ k) → make a p ≡ make n h) e (λ h. ap (make a) (le_prop p h)) q
 
   -- the same of a number that was packed

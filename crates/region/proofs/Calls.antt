@@ -63,10 +63,10 @@ module _ (r : Region) where
       let was : starts (cuts_out bytes ps) base ≡ true = sym (begins-cuts bytes ps base) ∙ found in
       record { answer = rw was refl; after = rw (leaving-cuts bytes ps base) refl }
 
-  pub misses : (base : ℕ) → begins ps base ≡ false → Give now base (Err Address) now
+  pub misses : (base : ℕ) → begins ps base ≡ false → Give now base (Err Address) (record { blocks = cuts_out bytes (leaving ps base); requests = r.requests; last = r.last })
   misses base lost =
       let was : starts (cuts_out bytes ps) base ≡ false = sym (begins-cuts bytes ps base) ∙ lost in
-      record { answer = rw was refl; after = rw (unfound (cuts_out bytes ps) base was) refl }
+      record { answer = rw was refl; after = rw (leaving-cuts bytes ps base) refl }
 
   module _ (i : ℕ) (on : within (cuts_out bytes ps) (4096 + i) ≡ true) where
     covers-is : covers ps (4096 + i) ≡ true

@@ -1,5 +1,5 @@
 -- What the slots say of the places that they stand for.
-use Rattle.std.proofs.Common.{◌≡◌, ℕ, ◌+◌, ◌<◌, ◌≤◌, Bool, true, false, not, ◌&&◌, ◌||◌, ltb, ◌==◌, List, [], ◌∷◌, ◌++◌, length, map, reverse, filter, Some, sym, refl, ap, ◌∙◌, inl, inr, append-nil, arith}
+use Rattle.std.proofs.Common.{◌≡◌, ℕ, ◌+◌, ◌%◌, ◌^◌, ◌<◌, ◌≤◌, Bool, true, false, not, ◌&&◌, ◌||◌, ltb, ◌==◌, List, [], ◌∷◌, ◌++◌, length, map, reverse, filter, Some, sym, refl, ap, ◌∙◌, inl, inr, append-nil, mod-eq_of_lt, arith}
 use Rattle.std.specs.List.{list_any}
 use Rattle.std.proofs.lemmas.List.{map-append, reverse-append, length-reverse, length-map}
 use Rattle.std.proofs.lemmas.List.Elements.{filter-append}
@@ -41,6 +41,29 @@ filter-chain p (s ∷ ss) =
 pub leaves : (base : ℕ) (slots slots' : List Slot) → slots' ≡ filter (λ s. not (s.base == base)) slots → chain slots' ≡ leaving (chain slots) base
 leaves base slots slots' e = ap chain e ∙ filter-chain (λ p. not (p.base == base)) slots
 
+-- how many slots are left says whether the test left one out
+module _ (t : Slot → Bool) where
+  abbrev left : List Slot → ℕ
+  left slots = length (filter (λ s. not (t s)) slots)
+
+  pub left-few : (slots : List Slot) → left slots ≤ length slots
+  left-few [] = omega arith
+  left-few (s ∷ ss) = let few = left-few ss in elim (cases_Bool (t s)) [ inl e ↦ rw e (omega arith) | inr e ↦ rw e (omega arith) ]
+
+  pub left-all : (slots : List Slot) → left slots ≡ length slots → list_any t slots ≡ false
+  left-all [] same = refl
+  left-all (s ∷ ss) same = let few = left-few ss in elim (cases_Bool (t s)) [
+    | inl e ↦ let one = rw e at same in absurd (omega arith)
+    | inr e ↦ let one = rw e at same in rw e (left-all ss (omega arith))
+  ]
+
+  pub left-fewer : (slots : List Slot) → left slots < length slots → list_any t slots ≡ true
+  left-fewer [] fewer = absurd (omega arith)
+  left-fewer (s ∷ ss) fewer = elim (cases_Bool (t s)) [
+    | inl e ↦ rw e refl
+    | inr e ↦ let one = rw e at fewer in rw e (left-fewer ss (omega arith))
+  ]
+
 -- does the place overlap the other
 abbrev pub meets : Place → Place → Bool
 meets p q = ltb p.base (q.base + q.size) && ltb q.base (p.base + p.size)
@@ -57,6 +80,21 @@ free-meets (p ∷ ps) q =
 
 pub free-chain : (slots : List Slot) (q : Place) → free (chain slots) q ≡ not (list_any (λ s. meets (place s) q) slots)
 free-chain slots q = free-meets (chain slots) q ∙ ap not (any-chain (λ p. meets p q) slots)
+
+-- the test by ends that are cut at the last number is the same, since every block ends below it
+ends : (len : ℕ) (ps : List Place) (q : Place) → len ≤ 67108864 → keeps len ps ≡ true
+    → list_any (λ p. ltb p.base (q.base + q.size) && ltb q.base ((p.base + p.size) % 2 ^ 64)) ps ≡ list_any (λ p. meets p q) ps
+ends len [] q short k = refl
+ends len (p ∷ ps) q short k =
+    let a = parts len p ps k in
+    let high = a.stands.high in
+    let uncut : (p.base + p.size) % 2 ^ 64 ≡ p.base + p.size = mod-eq_of_lt (omega arith) in
+    rw (uncut, ends len ps q short a.older) refl
+
+pub ends-chain : (len : ℕ) (slots : List Slot) (q : Place) → len ≤ 67108864 → keeps len (chain slots) ≡ true
+    → list_any (λ s. ltb s.base (q.base + q.size) && ltb q.base ((s.base + s.size) % 2 ^ 64)) slots ≡ list_any (λ s. meets (place s) q) slots
+ends-chain len slots q short k =
+    sym (any-chain (λ p. ltb p.base (q.base + q.size) && ltb q.base ((p.base + p.size) % 2 ^ 64)) slots) ∙ ends len (chain slots) q short k ∙ any-chain (λ p. meets p q) slots
 
 -- an address of a block is one of the buffer's
 pub covered : (len : ℕ) (ps : List Place) (at : ℕ) → keeps len ps ≡ true → covers ps at ≡ true → (4096 ≤ at) × (at < 4096 + len)

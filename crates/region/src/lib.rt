@@ -60,8 +60,8 @@ impl Region {
         // No chain: its closures would have to bound the offsets again.
         for k in 0..room / 16 + 1 {
             let base = 4096 + 16 * k;
-            let block = Slot { base, size };
-            if !self.slots.iter().any(|slot| slot.overlaps(&block)) {
+            let end = base + size;
+            if !self.slots.iter().any(|slot| slot.overlaps(base, end)) {
                 return Some(base);
             }
         }
@@ -122,10 +122,12 @@ impl BlockSource for Region {
     }
 
     fn give(&mut self, base: usize) -> Result<(), SourceFault> {
-        if !self.slots.iter().any(|slot| slot.base == base) {
+        // In one pass: how many are left says whether there was such a block.
+        let count = self.slots.len();
+        self.slots.retain(|slot| slot.base != base);
+        if self.slots.len() == count {
             return Err(SourceFault::Address);
         }
-        self.slots.retain(|slot| slot.base != base);
         Ok(())
     }
 

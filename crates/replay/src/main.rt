@@ -18,13 +18,18 @@ fn main(rt: HostRuntime) -> anyhow::Result<()> {
 }
 
 fn replay(rt: &HostRuntime, heap: Global) -> anyhow::Result<()> {
-    let Some(text) = input::read(rt.stdin(), heap)? else {
-        return refuse(rt, cards::Fault::Broken);
-    };
-    match Card::read(Blank::new(heap)?, text.as_slice()) {
+    match card(rt, heap)? {
         Ok(card) => run(rt, heap, &card),
         Err(fault) => refuse(rt, fault),
     }
+}
+
+// The card that the input writes. Its text is let go before the card is run.
+fn card(rt: &HostRuntime, heap: Global) -> anyhow::Result<Result<Card, cards::Fault>> {
+    let Some(text) = input::read(rt.stdin(), heap)? else {
+        return Ok(Err(cards::Fault::Broken));
+    };
+    Ok(Card::read(Blank::new(heap)?, text.as_slice()))
 }
 
 // Runs the card in a session on a tracker on an arena on a region.

@@ -1,5 +1,7 @@
 -- What each call of a vector answers, which calls its session performed for it, and the vector's list of elements after it.
-use Rattle.std.specs.Prelude.{◌≡◌, ℕ, ◌+◌, ◌-◌, ◌*◌, ◌<◌, ◌≤◌, List, [], ◌∷◌, ◌++◌, map, length, Some, None, Ok, Err, Option, Result, ◌≢◌, slice_index_or, slice_set}
+use Rattle.std.specs.Prelude.{◌≡◌, ℕ, ◌+◌, ◌-◌, ◌*◌, ◌<◌, ◌≤◌, List, [], ◌∷◌, ◌++◌, map, length, Some, None, Ok, Err, Option, Result, ◌≢◌, is_some, nat_lt, slice_index_or, slice_set, refl}
+use Rattle.std.proofs.Common.{sym, lit≤}
+use Rattle.std.proofs.lemmas.Bool.{lt-ltb}
 use Rattle.std.specs.List.{range_with_len}
 use Rattle.allocator.specs.declared.Allocator.{Ghosts}
 use Rattle.allocator.specs.declared.fault.Fault.TheVariants.{Size, Address}
@@ -32,6 +34,11 @@ new_vector grant at capacity len = record { grant = grant; at = at; capacity = c
 abbrev pub plain : Option Header → Vector
 plain None = new_vector None 0 0 0
 plain (Some h) = new_vector (Some h.grant) h.at h.cap h.len
+
+-- What the type says of each vector: its length is at most its capacity, the capacity is at most 16777216, and a grant is there exactly with capacity.
+pub bounds : (h : Option Header) → ((plain h).len ≤ (plain h).capacity) × ((plain h).capacity ≤ 16777216) × (is_some (plain h).grant ≡ nat_lt 0 (plain h).capacity)
+bounds None = (lit≤ tt, lit≤ tt, refl)
+bounds (Some h) = (h.fits, h.small, sym (lt-ltb 0 h.cap h.some))
 
 -- a vector is formed if a header says it, and then its length is at most its capacity
 pub record Formed (v : Vector) : Type 0 where

@@ -1,7 +1,7 @@
 // A vector of elements of one kind, in a span that it pushed. No call asks anything of its caller.
-ghost use Rattle.std.specs.Prelude.{◌≡◌, ◌-◌, ◌≤◌, [], ◌∷◌, IfOk, IfErr, ◌==◌};
+ghost use Rattle.std.specs.Prelude.{◌≡◌, ◌-◌, ◌≤◌, [], ◌∷◌, Ok, Err, IfOk, IfErr, MatchResult, ◌==◌};
 ghost use Rattle.session.specs.Sessions.{state};
-ghost use Rattle.ser_vec.specs.Vectors.{Lives, Tested, Extending, Setting, Getting, Popping, Reserving, Telling, Clearing, Closing, Acts, Opens, ended};
+ghost use Rattle.ser_vec.specs.Vectors.{plain, Lives, Tested, Extending, Setting, Getting, Popping, Reserving, Telling, Clearing, Closing, Acts, Opens, ended};
 
 use crate::fault::Fault;
 use crate::header::Header;
@@ -17,13 +17,14 @@ pub struct SerVec<K> {
     kind: PhantomData<K>,
 }
 
-// A clause sees a vector as what its header says.
+// A clause sees a vector as its header, whose type says more of it than the numbers of `plain` do.
 impl<K> Model for SerVec<K> {
-    ghost use Rattle.ser_vec.specs.Vectors.{Vector, plain};
+    ghost use Rattle.std.specs.Prelude.{Option};
+    ghost use Rattle.ser_vec.specs.declared.header.Header.{Header};
 
-    ghost Value = { Vector };
+    ghost Value = { Option Header };
 
-    ghost view = { λ v. plain v.header };
+    ghost view = { λ v. v.header };
 }
 
 // With these lemmas the check itself proves the ways through a call that perform nothing in the session: they need no answer.
@@ -34,7 +35,7 @@ impl<K: Kind> SerVec<K> {
         session: &mut Session<A>,
         cap: usize,
     ) -> Result<SerVec<K>, Fault>
-        ensures { Opens A.Allocator K.Kind cap session.old result session.new }
+        ensures { MatchResult result (λ v. Opens A.Allocator K.Kind cap session.old (Ok (plain v)) session.new) (λ f. Opens A.Allocator K.Kind cap session.old (Err f) session.new) }
     {
         if cap == 0 {
             return Ok(SerVec {
@@ -60,7 +61,7 @@ impl<K: Kind> SerVec<K> {
 
     // Refused unless the session has the vector's span on record. Without capacity there is none to have.
     fn live<A: Allocator>(&self, session: &Session<A>) -> Result<(), Fault>
-        ensures { Tested K.Kind.wide self.now (state A.Allocator session.now) result }
+        ensures { Tested K.Kind.wide (plain self.now) (state A.Allocator session.now) result }
     {
         let Some(header) = &self.header else {
             return Ok(());
@@ -74,7 +75,7 @@ impl<K: Kind> SerVec<K> {
     }
 
     pub fn clear<A: Allocator>(&mut self, session: &Session<A>) -> Result<(), Fault>
-        ensures { Acts A.Allocator K.Kind.wide Clearing self.old session.now result self.new session.now }
+        ensures { Acts A.Allocator K.Kind.wide Clearing (plain self.old) session.now result (plain self.new) session.now }
     {
         self.live(session)?;
         if let Some(header) = &mut self.header {
@@ -85,7 +86,7 @@ impl<K: Kind> SerVec<K> {
 
     // How many elements the vector can hold.
     pub fn capacity<A: Allocator>(&self, session: &Session<A>) -> Result<usize, Fault>
-        ensures { Acts A.Allocator K.Kind.wide (Telling self.now.capacity) self.now session.now result self.now session.now }
+        ensures { Acts A.Allocator K.Kind.wide (Telling (plain self.now).capacity) (plain self.now) session.now result (plain self.now) session.now }
     {
         self.live(session)?;
         Ok(self.header.as_ref().map_or(0, |header| header.cap))
@@ -97,8 +98,8 @@ impl<K: Kind> SerVec<K> {
         session: &Session<A>,
         additional: usize,
     ) -> Result<(), Fault>
-        ensures step { Acts A.Allocator K.Kind.wide (Reserving additional) self.now session.now result self.now session.now }
-        ensures room { IfOk result (λ _. Lives K.Kind.wide self.now (state A.Allocator session.now) × (additional ≤ self.now.capacity - self.now.len)) }
+        ensures step { Acts A.Allocator K.Kind.wide (Reserving additional) (plain self.now) session.now result (plain self.now) session.now }
+        ensures room { IfOk result (λ _. Lives K.Kind.wide (plain self.now) (state A.Allocator session.now) × (additional ≤ (plain self.now).capacity - (plain self.now).len)) }
     {
         self.live(session)?;
         let room = self
@@ -117,20 +118,20 @@ impl<K: Kind> SerVec<K> {
         session: &Session<A>,
         additional: usize,
     ) -> Result<(), Fault>
-        ensures { Acts A.Allocator K.Kind.wide (Reserving additional) self.now session.now result self.now session.now }
+        ensures { Acts A.Allocator K.Kind.wide (Reserving additional) (plain self.now) session.now result (plain self.now) session.now }
     {
         self.reserve(session, additional)
     }
 
     pub fn is_empty<A: Allocator>(&self, session: &Session<A>) -> Result<bool, Fault>
-        ensures { Acts A.Allocator K.Kind.wide (Telling (self.now.len == 0)) self.now session.now result self.now session.now }
+        ensures { Acts A.Allocator K.Kind.wide (Telling ((plain self.now).len == 0)) (plain self.now) session.now result (plain self.now) session.now }
     {
         self.live(session)?;
         Ok(self.header.as_ref().is_none_or(|header| header.len == 0))
     }
 
     pub fn len<A: Allocator>(&self, session: &Session<A>) -> Result<usize, Fault>
-        ensures { Acts A.Allocator K.Kind.wide (Telling self.now.len) self.now session.now result self.now session.now }
+        ensures { Acts A.Allocator K.Kind.wide (Telling (plain self.now).len) (plain self.now) session.now result (plain self.now) session.now }
     {
         self.live(session)?;
         Ok(self.header.as_ref().map_or(0, |header| header.len))
@@ -142,7 +143,7 @@ impl<K: Kind> SerVec<K> {
         session: &mut Session<A>,
         other: &[K],
     ) -> Result<(), Fault>
-        ensures { Acts A.Allocator K.Kind.wide (Extending K.Kind other.now) self.old session.old result self.new session.new }
+        ensures { Acts A.Allocator K.Kind.wide (Extending K.Kind other.now) (plain self.old) session.old result (plain self.new) session.new }
     {
         self.reserve(session, other.len())?;
         if let Some(header) = &mut self.header {
@@ -154,7 +155,7 @@ impl<K: Kind> SerVec<K> {
 
     // Takes the last element off and answers it.
     pub fn pop<A: Allocator>(&mut self, session: &Session<A>) -> Result<Option<K>, Fault>
-        ensures { Acts A.Allocator K.Kind.wide (Popping K.Kind) self.old session.now result self.new session.now }
+        ensures { Acts A.Allocator K.Kind.wide (Popping K.Kind) (plain self.old) session.now result (plain self.new) session.now }
     {
         self.live(session)?;
         match &mut self.header {
@@ -169,7 +170,7 @@ impl<K: Kind> SerVec<K> {
 
     // Appends an element: not as a slice of one, since an array of K owes a bound on K's size, which no law of kinds gives.
     pub fn push<A: Allocator>(&mut self, session: &mut Session<A>, value: K) -> Result<(), Fault>
-        ensures { Acts A.Allocator K.Kind.wide (Extending K.Kind (value ∷ [])) self.old session.old result self.new session.new }
+        ensures { Acts A.Allocator K.Kind.wide (Extending K.Kind (value ∷ [])) (plain self.old) session.old result (plain self.new) session.new }
     {
         self.reserve(session, 1)?;
         if let Some(header) = &mut self.header {
@@ -180,7 +181,7 @@ impl<K: Kind> SerVec<K> {
     }
 
     pub fn get<A: Allocator>(&self, session: &Session<A>, index: usize) -> Result<Option<K>, Fault>
-        ensures { Acts A.Allocator K.Kind.wide (Getting K.Kind index) self.now session.now result self.now session.now }
+        ensures { Acts A.Allocator K.Kind.wide (Getting K.Kind index) (plain self.now) session.now result (plain self.now) session.now }
     {
         self.live(session)?;
         match &self.header {
@@ -195,7 +196,7 @@ impl<K: Kind> SerVec<K> {
         index: usize,
         value: K,
     ) -> Result<(), Fault>
-        ensures { Acts A.Allocator K.Kind.wide (Setting K.Kind index value) self.now session.old result self.now session.new }
+        ensures { Acts A.Allocator K.Kind.wide (Setting K.Kind index value) (plain self.now) session.old result (plain self.now) session.new }
     {
         self.live(session)?;
         match &self.header {
@@ -206,8 +207,8 @@ impl<K: Kind> SerVec<K> {
 
     // Gives the span back. A refusal hands the vector back.
     pub fn close<A: Allocator>(self, session: &mut Session<A>) -> Result<(), (SerVec<K>, Fault)>
-        ensures step { Acts A.Allocator K.Kind.wide Closing self session.old (ended result) self session.new }
-        ensures back { IfErr result (λ e. e.0 ≡ self) }
+        ensures step { Acts A.Allocator K.Kind.wide Closing (plain self) session.old (ended result) (plain self) session.new }
+        ensures back { IfErr result (λ e. plain e.0 ≡ plain self) }
     {
         // no `?`, since a refusal hands the vector back
         if let Err(fault) = self.live(session) {

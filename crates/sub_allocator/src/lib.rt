@@ -4,7 +4,7 @@
 ghost use Rattle.std.specs.Prelude.{◌≡◌, ℕ, ◌+◌, ◌<◌, ◌≤◌, false, [], IfOk, IfErr};
 ghost use Rattle.allocator.specs.Memory.{Memory, taken};
 ghost use Rattle.allocator.specs.declared.fault.Fault.TheVariants.{Address};
-ghost use Rattle.sub_allocator.specs.Buffers.{based, room, fixed, fixed-lawful, stored_in, Alone};
+ghost use Rattle.sub_allocator.specs.Buffers.{room, fixed, fixed-lawful, stored_in, Alone};
 
 use allocator::{Allocator, Cause, Fault, Layout};
 
@@ -37,7 +37,7 @@ impl<'a> SubAllocator<'a> {
 
     // The bytes of the buffer have the addresses from `base` on, which is taken modulo 2^47.
     pub fn new(bytes: &'a mut [u8], base: usize) -> SubAllocator<'a>
-        ensures blocks { fixed result.base result.used result.bytes.now ≡ fixed (based base) 0 bytes.old }
+        ensures blocks { fixed result.base result.used result.bytes.now ≡ fixed base 0 bytes.old }
         ensures bytes { result.bytes.now ≡ bytes.old }
         ensures lent { result.bytes.ghost_name ≡ bytes.entry.ghost_name }
     {
@@ -70,7 +70,7 @@ impl<'a> SubAllocator<'a> {
 impl<'a> Allocator for SubAllocator<'a> {
     ghost blocks = { λ s. fixed s.base s.used s.bytes.now };
 
-    ghost lawful = { λ s. fixed-lawful s.base s.used s.bytes.now s.low s.inside };
+    ghost lawful = { λ s. fixed-lawful s.base s.used s.bytes.now };
 
     // It has no further block. The buffer behind it stays the caller's, and only stores change it.
     ghost pushes = { λ s size align r t. Alone (fixed s.base s.used s.bytes.now) size align r × (t.bytes.now ≡ s.bytes.now) × (t.bytes.ghost_name ≡ s.bytes.ghost_name) };

@@ -1,14 +1,21 @@
--- That `to_number` parses just the digits of a number of a card. Assumes nothing.
-use Rattle.std.proofs.Common.{◌≡◌, subst, arith}
-use Rattle.std.specs.Str.Parse.{ParsesUnsigned}
-use Rattle.cards.proofs.Decimals.{digits-text, parsed}
+-- That `to_number` reads just the digits of a number of a card: its running value fits, and is that of the digits so far. Assumes nothing.
+use Rattle.std.proofs.Common.{ap, ◌∙◌, arith}
+use Rattle.std.proofs.lemmas.List.{take_all}
+use Rattle.std.specs.Str.Parse.{digits_value}
+use Rattle.cards.proofs.Decimals.{value-step, value-small}
 use Rattle.cards.proofs.scan.to_number.Goals as goal
 
-pub returns-in_err-ok : goal.returns-in_err-ok
-returns-in_err-ok c = grind (arith, digits-text c.args.digits.now c.requires)
+pub overflow_mul-n : goal.overflow_mul-n
+overflow_mul-n c = omega (arith, value-small c.args.digits.now c.loop-digit.digit-index c.requires (omega arith) (omega arith))
+
+pub overflow_add-n : goal.overflow_add-n
+overflow_add-n c =
+    omega (arith, value-small c.args.digits.now c.loop-digit.digit-index c.requires (omega arith) (omega arith), c.requires c.loop-digit.digit-index (omega arith))
+
+pub loop-digit-preserved : goal.loop-digit-preserved
+loop-digit-preserved c = omega (arith, value-step c.args.digits.now c.loop-digit.digit-index c.requires (omega arith))
 
 pub returns : goal.returns
 returns c =
-    let whole : c.in_ok-ok.field-0.now ≡ c.args.digits.now = grind arith in
-    let told : ParsesUnsigned 64 10 c.args.digits.now c.parse.result = subst (λ ds. ParsesUnsigned 64 10 ds c.parse.result) whole c.parse.ensures.value.0 in
-    rw c.ok-2.ensures.value (parsed c.args.digits.now c.parse.result told c.requires (omega arith) (grind arith))
+    let whole = take_all c.loop-digit.digit-index c.args.digits.now (omega arith) in
+    (record { some = grind arith; few = grind arith; zero = λ first. grind arith }, c.loop-digit.invariant ∙ ap (digits_value 10) whole)

@@ -1,18 +1,19 @@
-use Rattle.std.proofs.Common.{tests, rules, ◌==◌, length, sym, ◌∙◌}
-use Rattle.std.proofs.lemmas.Iterator.{YieldsList-from_slice}
-use Rattle.std.proofs.lemmas.Iterator.Search.{any_from_yields_List}
+use Rattle.std.proofs.Common.{rules, ◌≡◌, ◌==◌, not, length, filter, ap, ◌∙◌, arith}
 use Rattle.arrayvec.proofs.ArrayVecLemmas.{filter-from_retain}
 use Rattle.region.specs.Places.{chain}
 use Rattle.region.specs.Regions.{usable}
-use Rattle.region.proofs.Chains.{any-chain, leaves, keeps-leaving}
+use Rattle.region.proofs.Chains.{any-chain, leaves, left-few, left-all, left-fewer, keeps-leaving}
 use Rattle.region.proofs.Calls.{gives, misses}
 use Rattle.region.proofs.RegionBlockSource.give.Goals as goal
 
-pub returns-then-not-any-clause-rule : goal.returns-then-not-any-clause-rule
-returns-then-not-any-clause-rule c =
+pub returns-then-len-count-clause-rule : goal.returns-then-len-count-clause-rule
+returns-then-len-count-clause-rule c =
     let r = c.args.self.now in
-    let by_call = any_from_yields_List (λ s. s.base == c.args.base) _ _ c.any.result c.any.ensures.ran (YieldsList-from_slice r.slots.items cc) (λ x b q k. search (rules, tests)) in
-    misses r c.args.base (any-chain (λ p. p.base == c.args.base) r.slots.items ∙ (sym by_call ∙ c.if-not-any.true))
+    let slots = r.slots.items in
+    let is : c.retain.new.self.items ≡ filter (λ s. not (s.base == c.args.base)) slots = filter-from_retain _ _ _ (λ x b f' y called. search rules) _ _ c.retain.ensures.filtered in
+    let many = ap length is in
+    let lost = left-all (λ s. s.base == c.args.base) slots (grind arith) in
+    rw (leaves c.args.base _ _ is) (misses r c.args.base (any-chain (λ p. p.base == c.args.base) slots ∙ lost))
 
 pub invariant_of-self : goal.invariant_of-self
 invariant_of-self c =
@@ -23,6 +24,9 @@ invariant_of-self c =
 pub returns-clause-rule : goal.returns-clause-rule
 returns-clause-rule c =
     let r = c.args.self.now in
-    let by_call = any_from_yields_List (λ s. s.base == c.args.base) _ _ c.any.result c.any.ensures.ran (YieldsList-from_slice r.slots.items cc) (λ x b q k. search (rules, tests)) in
-    let left = leaves c.args.base _ _ (filter-from_retain _ _ _ (λ x b f' y called. search rules) _ _ c.retain.ensures.filtered) in
-    rw left (gives r c.args.base (any-chain (λ p. p.base == c.args.base) r.slots.items ∙ (sym by_call ∙ c.if-not-any.false)))
+    let slots = r.slots.items in
+    let is : c.retain.new.self.items ≡ filter (λ s. not (s.base == c.args.base)) slots = filter-from_retain _ _ _ (λ x b f' y called. search rules) _ _ c.retain.ensures.filtered in
+    let many = ap length is in
+    let few = left-few (λ s. s.base == c.args.base) slots in
+    let found = left-fewer (λ s. s.base == c.args.base) slots (grind arith) in
+    rw (leaves c.args.base _ _ is) (gives r c.args.base (any-chain (λ p. p.base == c.args.base) slots ∙ found))

@@ -22,7 +22,7 @@ whole (Some bytes) start text limit len none most counted h =
 pub returns-clause-bytes : goal.returns-clause-bytes
 returns-clause-bytes g c =
     let told = c.in_ok-len.ensures in
-    let made = c.new-text.ensures in
+    let made = c.in_ok-text.ensures in
     let P : _ → Type 0 = λ read. IfSome (g.R.Read.remaining c.args.input) (λ bytes. Whole bytes read) in
-    let found = whole (g.R.Read.remaining c.take.result.inner) c.new-text.result.items c.read_to_end.new.buf c.take.result.limit c.in_ok-len.len made.items c.take.ensures.limit (omega (arith, told.ok, made.len)) told.bytes in
+    let found = whole (g.R.Read.remaining c.take.result.inner) c.in_ok-text.text.items c.read_to_end.new.buf c.take.result.limit c.in_ok-len.len made.items c.take.ensures.limit (omega (arith, told.ok, made.len)) told.bytes in
     subst P (sym c.then_some.ensures) (subst (λ i. IfSome (g.R.Read.remaining i) (λ bytes. Whole bytes (then_some (leb c.in_ok-len.len 32768) c.read_to_end.new.buf))) c.take.ensures.inner found)

@@ -5,4 +5,4 @@ pub returns : goal.returns
 returns c =
     let s = c.args.self.now in
     let found = c.in_ok-i.ensures.found in
-    rw found.0 (load-found s.base s.used s.bytes.now c.in_ok-i.i found.1 s.inside)
+    rw found.0 (load-found s.base s.used s.bytes.now s.low s.inside c.in_ok-i.i found.1)

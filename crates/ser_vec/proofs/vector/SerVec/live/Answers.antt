@@ -13,5 +13,5 @@ returns-else-eq g c =
           let held = rw (← c.self.view_is, c.in-Some.is, ← c.width.ensures) at lives in
           let is : c.span_of.result ≡ Some (h.at, h.cap * c.width.result) = told-span spans h.grant.number h.at (h.cap * c.width.result) c.span_of.result unique c.span_of.ensures held in
           same-pair h.at (h.cap * c.width.result) (rw is at c.if-eq.ensures),
-      formed c.self.inside.header c.self.view_is,
+      formed c.args.self.now refl,
     )
