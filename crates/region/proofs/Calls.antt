@@ -1,10 +1,10 @@
 -- The calls of a region keep the rules of a source, and its own.
-use Rattle.std.proofs.Common.{◌≡◌, ℕ, ◌+◌, ◌-◌, ◌%◌, ◌^◌, ◌<◌, ◌≤◌, true, false, ◌==◌, List, [], ◌∷◌, length, get_or, take, drop, set, Some, None, Ok, Err, Result, sym, refl, ap, ◌∙◌, inl, inr, arith, length-drop, length-take}
+use Rattle.std.proofs.Common.{◌≡◌, ℕ, ◌+◌, ◌-◌, ◌%◌, ◌^◌, ◌<◌, ◌≤◌, true, false, List, ◌∷◌, length, get_or, take, drop, set, Some, None, Ok, Err, Result, sym, refl, ap, ◌∙◌, arith, length-drop, length-take}
 use Rattle.std.specs.Result.{IsErr}
-use Rattle.std.proofs.lemmas.Bool.{both_ways, true≢false, cases_Bool}
+use Rattle.std.proofs.lemmas.Bool.{both_ways, true≢false}
 use Rattle.std.proofs.lemmas.Bool.Decides.{nat_tests}
 use Rattle.source.specs.Answers.{Take, Give, Load, Store, sized}
-use Rattle.source.specs.Blocks.{Outstanding, Place, Source, within, without, starts, byte_at}
+use Rattle.source.specs.Blocks.{Place, Source, within, starts, byte_at}
 use Rattle.source.specs.declared.fault.SourceFault.{SourceFault}
 use Rattle.source.specs.declared.fault.SourceFault.TheVariants.{Address}
 use Rattle.source.specs.declared.request.Outcome.TheVariants.{Granted}
@@ -16,14 +16,6 @@ use Rattle.region.proofs.Windows.{stored-cuts, byte-cuts, leaving-cuts, begins-c
 
 sized-true : (size : ℕ) → 0 < size → size ≤ 67108864 → sized size ≡ true
 sized-true size some small = grind (arith, nat_tests)
-
--- where no block starts, none is left out
-unfound : (bs : List Outstanding) (at : ℕ) → starts bs at ≡ false → without bs at ≡ bs
-unfound [] at no' = refl
-unfound (b ∷ bs) at no' = elim (cases_Bool (b.base == at)) [
-  | inl e ↦ absurd (true≢false (rw e at no'))
-  | inr e ↦ rw e (ap (λ r. b ∷ r) (unfound bs at (rw e at no')))
-]
 
 module _ (r : Region) where
   abbrev bytes : List ℕ

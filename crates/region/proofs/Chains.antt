@@ -81,7 +81,7 @@ free-meets (p ∷ ps) q =
 pub free-chain : (slots : List Slot) (q : Place) → free (chain slots) q ≡ not (list_any (λ s. meets (place s) q) slots)
 free-chain slots q = free-meets (chain slots) q ∙ ap not (any-chain (λ p. meets p q) slots)
 
--- the test by ends that are cut at the last number is the same, since every block ends below it
+-- the test by ends that wrap is the same, since every block ends below the last number
 ends : (len : ℕ) (ps : List Place) (q : Place) → len ≤ 67108864 → keeps len ps ≡ true
     → list_any (λ p. ltb p.base (q.base + q.size) && ltb q.base ((p.base + p.size) % 2 ^ 64)) ps ≡ list_any (λ p. meets p q) ps
 ends len [] q short k = refl
