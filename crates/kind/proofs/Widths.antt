@@ -1,9 +1,9 @@
 -- The bytes of the library's numbers are ours, and the numbers of its bytes.
-use Rattle.std.proofs.Common.{rules, ◌≡◌, ℕ, ◌+◌, ◌-◌, ◌%◌, ◌^◌, ◌<◌, ◌≤◌, List, take, drop, ◌++◌, slice_index, arith, w32, w64, sym, refl, ap, mod-eq_of_lt, lit≤, ◌∙◌}
+use Rattle.std.proofs.Common.{rules, ◌≡◌, ℕ, ◌+◌, ◌-◌, ◌%◌, ◌^◌, ◌<◌, ◌≤◌, List, take, drop, ◌++◌, slice_index, arith, w32, w64, sym, refl, ap, lit≤, ◌∙◌}
 use Rattle.std.specs.Int.{to_le_bytes, from_le_bytes}
 use Rattle.std.proofs.lemmas.List.{get_or_append_left, get_or-append_right}
 use Rattle.kind.specs.Bytes.{little_endian, number}
-use Rattle.kind.specs.Endian.{part-front}
+use Rattle.kind.specs.Endian.{limited, part-front}
 use Rattle.kind.specs.Packings.{cue, cue_packed, cue_from, cue-made}
 use Rattle.kind.specs.declared.element.Cue.{Cue}
 
@@ -29,7 +29,7 @@ byte_of_tag x i from =
     ap (λ bs. slice_index bs (i - 12)) (written_4 x.tag) ∙ sym past
 
 number_read : (bs : List ℕ) (k at n v : ℕ) → at + n ≤ 16 → v ≡ number (take n (drop at bs)) → v < 2 ^ k → number (take n (drop at (take 16 bs))) % 2 ^ k ≡ v
-number_read bs k at n v inside e less = ap (λ xs. number xs % 2 ^ k) (part-front bs at n 16 inside) ∙ ap (λ m. m % 2 ^ k) (sym e) ∙ mod-eq_of_lt less
+number_read bs k at n v inside e less = ap (λ xs. number xs % 2 ^ k) (part-front bs at n 16 inside) ∙ sym (limited k v (number (take n (drop at bs))) less e)
 
 -- a cue of the numbers in the front of a buffer
 pub cue_read : (bs : List ℕ) (s l t : ℕ) (p : s < 2 ^ 64) (q : l < 2 ^ 32) (r : t < 2 ^ 32)
